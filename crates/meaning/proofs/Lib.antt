@@ -1,0 +1,5 @@
+pub mod Whole
+pub mod Lists
+pub mod Pairs
+pub mod Channels
+pub mod Facts

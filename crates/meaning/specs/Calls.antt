@@ -1,0 +1,126 @@
+-- Document 01, "Room", "Gaps" and the refusals of a line and of a gap mark: what a list of calls has opened, closed and answered.
+use Prim.Native.Nat.{ℕ, zero, suc, _+_, _*_}
+use mathlib.Core.Path.{_≡_}
+use mathlib.Core.Bool.{Bool, true, false, cond, not, _&&_}
+use mathlib.Core.List.{List, [], _∷_, _++_}
+use lib.Dec.{leb, ltb}
+use Rattle.meaning.specs.Limits.{last-stamp, most-open}
+use Rattle.meaning.specs.Words.{Action, Property, Line, Run}
+use Rattle.meaning.specs.Node.{ins, Verdict, IsVerdict, verdict-number}
+use Rattle.meaning.specs.Numbers.{given, first-of, action-above}
+
+-- "An input of the run is open at stamp T if its stamp + 2·UB ≥ T."
+abbrev pub is-open : Property → ℕ → Line → Bool
+is-open p T x = leb T (x .stamp + 2 * p .UB)
+
+-- How many of these inputs are open at T.
+abbrev pub count-open : Property → ℕ → List Line → ℕ
+count-open p T [] = 0
+count-open p T (x ∷ rest) = cond (is-open p T x) (suc (count-open p T rest)) (count-open p T rest)
+
+abbrev pub open-at : Property → ℕ → Run → ℕ
+open-at p T run = count-open p T (ins run)
+
+-- The two calls on a session.
+pub data Call : Type 0 where
+  line : Line → Call
+  mark : ℕ → Call
+
+-- What the calls so far have come to: is the session blind, the run that is open (none while blind), the latest stamp.
+pub record Watch : Type 0 where
+  pub is-blind : Bool
+  pub run : Run
+  pub latest : ℕ
+
+-- "A fresh session has an empty run, verdict 0 and latest stamp 0."
+abbrev pub fresh : Watch
+fresh = record { is-blind = false; run = []; latest = 0 }
+
+-- "T exceeds the latest stamp by more than 2·UB"
+abbrev pub beyond : Property → ℕ → ℕ → Bool
+beyond p latest T = ltb (latest + 2 * p .UB) T
+
+-- The watch after a line is taken: "A line stamped T taken while blind is skipped, unless T exceeds the latest stamp by
+-- more than 2·UB; then a boundary stands before it and it is the first line of a new run."
+abbrev pub with-line : Property → Watch → Line → Watch
+with-line p w l =
+    cond (w .is-blind)
+    (cond (beyond p (w .latest) (l .stamp))
+    (record { is-blind = false; run = l ∷ []; latest = l .stamp })
+    (record { is-blind = true; run = []; latest = l .stamp }))
+    (record { is-blind = false; run = w .run ++ l ∷ []; latest = l .stamp })
+
+-- The watch after a gap mark: "It closes the run .. and the session is blind."
+abbrev pub with-mark : Watch → ℕ → Watch
+with-mark w g = record { is-blind = true; run = []; latest = g }
+
+-- "4: a stamp above 2^40 − 1", "5: a stamp below the latest"
+abbrev pub stamp-refusal : ℕ → ℕ → ℕ
+stamp-refusal latest T = first-of (given 4 (ltb last-stamp T)) (given 5 (ltb T latest))
+
+-- "6: more than 64 inputs would be open"; "Refusal 6 is never given while blind."
+abbrev pub line-refusal : Property → Watch → Line → ℕ
+line-refusal p w l =
+    first-of (given 3 (action-above (l .action)))
+    (first-of (stamp-refusal (w .latest) (l .stamp))
+    (given 6 (not (w .is-blind) && ltb most-open (open-at p (l .stamp) (w .run ++ l ∷ [])))))
+
+abbrev pub refusal : Property → Watch → Call → ℕ
+refusal p w (Call.line l) = line-refusal p w l
+refusal p w (Call.mark g) = stamp-refusal (w .latest) g
+
+abbrev pub taken : Property → Watch → Call → Watch
+taken p w (Call.line l) = with-line p w l
+taken p w (Call.mark g) = with-mark w g
+
+-- What is refused alters nothing.
+abbrev pub unless-refused : {A : Type 0} → ℕ → A → A → A
+unless-refused zero new old = new
+unless-refused (suc n) new old = old
+
+abbrev pub next : Property → Watch → Call → Watch
+next p w c = unless-refused (refusal p w c) (taken p w c) w
+
+-- The watch after calls, from one that stands.
+unfoldable pub watched : Property → Watch → List Call → Watch
+watched p w [] = w
+watched p w (c ∷ rest) = watched p (next p w c) rest
+
+-- The verdict that stands: "3 blind, no run is open".
+abbrev pub Standing : Property → Watch → Verdict → Type 0
+Standing p w v = cond (w .is-blind) (v ≡ Verdict.blind) (IsVerdict p (w .run) v)
+
+-- "Open is 0 while blind."
+abbrev pub open-of : Property → Watch → ℕ
+open-of p w = cond (w .is-blind) 0 (open-at p (w .latest) (w .run))
+
+-- What a call answers.
+pub record Answer : Type 0 where
+  pub refusal : ℕ
+  pub verdict : ℕ
+  pub open-count : ℕ
+
+-- "A refusal carries 0 in all other numbers"
+abbrev pub refused : ℕ → Answer
+refused n = record { refusal = n; verdict = 0; open-count = 0 }
+
+-- The answer to a call that is taken: after a line the verdict that then stands and the number open; a gap mark's
+-- "answer gives the closed run's verdict (3 if already blind)".
+pub record Told (p : Property) (w : Watch) (open-count : ℕ) (a : Answer) : Type 0 where
+  pub taken : a .refusal ≡ 0
+  pub verdict : Verdict
+  pub stands : Standing p w verdict
+  pub told : a .verdict ≡ verdict-number verdict
+  pub counted : a .open-count ≡ open-count
+
+abbrev pub TakenAnswer : Property → Watch → Call → Answer → Type 0
+TakenAnswer p w (Call.line l) a = Told p (with-line p w l) (open-of p (with-line p w l)) a
+TakenAnswer p w (Call.mark g) a = Told p w 0 a
+
+abbrev pub AnswerBy : ℕ → Property → Watch → Call → Answer → Type 0
+AnswerBy zero p w c a = TakenAnswer p w c a
+AnswerBy (suc n) p w c a = a ≡ refused (suc n)
+
+-- The answer to a call, refused or taken.
+abbrev pub IsAnswer : Property → Watch → Call → Answer → Type 0
+IsAnswer p w c a = AnswerBy (refusal p w c) p w c a
