@@ -3,3 +3,5 @@ pub mod Lists
 pub mod Pairs
 pub mod Channels
 pub mod Facts
+pub mod Sets
+pub mod Exact
