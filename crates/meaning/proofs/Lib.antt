@@ -5,3 +5,6 @@ pub mod Channels
 pub mod Facts
 pub mod Sets
 pub mod Exact
+pub mod Tests
+pub mod Matching
+pub mod Lengths

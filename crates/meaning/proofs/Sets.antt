@@ -14,7 +14,7 @@ pub record Matcher : Type 1 where
   pub is-broken : State → Bool
 
 -- what the matcher remembers after some lines
-pub along : (M : Matcher) → M .State → List Line → M .State
+unfoldable pub along : (M : Matcher) → M .State → List Line → M .State
 along M s [] = s
 along M s (l ∷ ls) = along M (M .step s l) ls
 
