@@ -8,3 +8,4 @@ pub mod Exact
 pub mod Tests
 pub mod Matching
 pub mod Lengths
+pub mod Calls

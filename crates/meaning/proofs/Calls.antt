@@ -1,0 +1,131 @@
+-- After any calls the session over cuts agrees with what the calls have come to: refusals, number open, verdict.
+use Prim.Native.Nat.{ℕ, zero, suc, _+_, _*_, _≤_, _<_}
+use mathlib.Core.Path.{_≡_, refl, sym, _∙_, ap, subst}
+use mathlib.Core.Logic.{_↔_}
+use mathlib.Core.Bool.{Bool, true, false, cond, not, _&&_, true≢false}
+use mathlib.Core.List.{List, [], _∷_, _++_}
+use native.Mathlib.Omega.{arith}
+use lib.ListN.{length}
+use lib.Dec.{T, leb, ltb, ltb→lt, nltb→le}
+use Rattle.meaning.specs.Limits.{most-open, last-stamp}
+use Rattle.meaning.specs.Words.{Action, Property, Line, Run}
+use Rattle.meaning.specs.Node.{Breaks, Verdict, verdict-number, IsVerdict, VerdictFor}
+use Rattle.meaning.specs.Numbers.{given, first-of, action-above}
+use Rattle.meaning.specs.Calls.{is-open, open-at, Call, Watch, fresh, beyond, with-line, with-mark, stamp-refusal, line-refusal, refusal, taken, unless-refused, next, watched, Standing, open-of, Answer, refused, Told, TakenAnswer, AnswerBy, IsAnswer}
+use Rattle.meaning.specs.Step.{Sets, Held, Front, Cuts, last-set, closed, appended, swept, front-next, front-with, fresh-front, no-front, fresh-cuts, verdict-of, front-verdict, cuts-verdict, cuts-open, cuts-with-line, cuts-with-mark, cuts-line-refusal, cuts-refusal, cuts-taken, cuts-next, told, cuts-told, cuts-answer, cuts-after}
+use Rattle.meaning.proofs.Pairs.{Bounds}
+use Rattle.meaning.proofs.Sets.{Matcher, along, SetLaws}
+use Rattle.meaning.proofs.Exact.{Fits, fresh-fits, front-fits, held-is-open, front-verdict-exact}
+
+-- the first refusal decides, and where it is not given the later one
+first-of-later : (x : ℕ) {y z : ℕ} → (x ≡ 0 → y ≡ z) → first-of x y ≡ first-of x z
+first-of-later zero h = h refl
+first-of-later (suc x) h = refl
+
+pub first-of-none : (x : ℕ) {y : ℕ} → first-of x y ≡ 0 → (x ≡ 0) × (y ≡ 0)
+first-of-none zero e = (refl, e)
+first-of-none (suc x) e = let z : ⊥ = omega arith in absurd z
+
+pub given-none : (n : ℕ) (t : Bool) → given (suc n) t ≡ 0 → t ≡ false
+given-none n true e = let z : ⊥ = omega arith in absurd z
+given-none n false e = refl
+
+not-below : (m n : ℕ) → ltb m n ≡ false → n ≤ m
+not-below m n e = nltb→le m n (subst (λ (t : Bool). T (not t)) (sym e) tt)
+
+pub not-refused-stamp : (latest t : ℕ) → stamp-refusal latest t ≡ 0 → latest ≤ t
+not-refused-stamp latest t e = not-below t latest (given-none 4 (ltb t latest) (first-of-none (given 4 (ltb last-stamp t)) e .1))
+
+module _ (p : Property) (b : Bounds p) (M : Matcher) (𝓢 : Sets) (laws : SetLaws M 𝓢)
+  (reads : (order : List Line) → (M .is-broken (along M (M .begin) order) ≡ true) ↔ Breaks p order) where
+  pub data Agrees : Watch → Cuts (𝓢 .Set) → Type 0 where
+    open-run : (run : Run) (latest : ℕ) (f : Front (𝓢 .Set)) → Fits p b M 𝓢 laws latest run f → length (f .held) ≤ most-open
+      → Agrees (record { is-blind = false; run = run; latest = latest }) (record { is-blind = false; front = f; latest = latest })
+    blind : (latest : ℕ) → Agrees (record { is-blind = true; run = []; latest = latest }) (record { is-blind = true; front = no-front p 𝓢; latest = latest })
+
+  pub fresh-agrees : Agrees fresh (fresh-cuts p 𝓢)
+  fresh-agrees = open-run [] 0 (fresh-front p 𝓢) (fresh-fits p b M 𝓢 laws 0) (omega arith)
+
+  pub refusal-agrees : {w : Watch} {c : Cuts (𝓢 .Set)} → Agrees w c → (k : Call) → cuts-refusal p 𝓢 c k ≡ refusal p w k
+  refusal-agrees (open-run run latest f fit few) (Call.line l) =
+      first-of-later (given 3 (action-above (l .action)))
+      (λ z. first-of-later (stamp-refusal latest (l .stamp))
+      (λ e. ap (λ (n : ℕ). given 6 (ltb most-open n))
+      (sym (held-is-open p b M 𝓢 laws (front-fits p b M 𝓢 laws latest run f fit l (not-refused-stamp latest (l .stamp) e))))))
+  refusal-agrees (open-run run latest f fit few) (Call.mark g) = refl
+  refusal-agrees (blind latest) (Call.line l) = refl
+  refusal-agrees (blind latest) (Call.mark g) = refl
+
+  -- the first line of a run holds at most itself
+  one-held : (a : Action) (t : ℕ) → length (front-with p 𝓢 (fresh-front p 𝓢) (record { action = a; stamp = t }) .held) ≤ 1
+  unfolding closed appended swept
+  one-held (Action.input k) t = omega arith
+  one-held (Action.output k) t = omega arith
+
+  pub taken-agrees : {w : Watch} {c : Cuts (𝓢 .Set)} → Agrees w c → (k : Call) → refusal p w k ≡ 0 → Agrees (taken p w k) (cuts-taken p 𝓢 c k)
+  taken-agrees (open-run run latest f fit few) (Call.line l) e =
+      let r : (given 3 (action-above (l .action)) ≡ 0) × (first-of (stamp-refusal latest (l .stamp)) (given 6 (ltb most-open (open-at p (l .stamp) (run ++ l ∷ [])))) ≡ 0) =
+          first-of-none (given 3 (action-above (l .action))) e in
+      let q : (stamp-refusal latest (l .stamp) ≡ 0) × (given 6 (ltb most-open (open-at p (l .stamp) (run ++ l ∷ []))) ≡ 0) =
+          first-of-none (stamp-refusal latest (l .stamp)) (r .1) in
+      let fit′ : Fits p b M 𝓢 laws (l .stamp) (run ++ l ∷ []) (front-with p 𝓢 f l) =
+          front-fits p b M 𝓢 laws latest run f fit l (not-refused-stamp latest (l .stamp) (q .0)) in
+      open-run (run ++ l ∷ []) (l .stamp) (front-with p 𝓢 f l) fit′
+      (subst (λ (n : ℕ). n ≤ most-open) (held-is-open p b M 𝓢 laws fit′) (not-below most-open (open-at p (l .stamp) (run ++ l ∷ [])) (given-none 5 _ (q .1))))
+  taken-agrees (open-run run latest f fit few) (Call.mark g) e = blind g
+  taken-agrees (blind latest) (Call.line l) e = go (beyond p latest (l .stamp))
+    where
+      go : (t : Bool)
+        → Agrees
+          (cond t (record { is-blind = false; run = l ∷ []; latest = l .stamp }) (record { is-blind = true; run = []; latest = l .stamp }))
+          (cond t
+          (record { is-blind = false; front = front-with p 𝓢 (fresh-front p 𝓢) l; latest = l .stamp })
+          (record { is-blind = true; front = no-front p 𝓢; latest = l .stamp }))
+      go true =
+          open-run (l ∷ []) (l .stamp) (front-with p 𝓢 (fresh-front p 𝓢) l)
+          (front-fits p b M 𝓢 laws 0 [] (fresh-front p 𝓢) (fresh-fits p b M 𝓢 laws 0) l (omega arith))
+          (omega (arith, one-held (l .action) (l .stamp)))
+      go false = blind (l .stamp)
+  taken-agrees (blind latest) (Call.mark g) e = blind g
+
+  pub next-agrees : {w : Watch} {c : Cuts (𝓢 .Set)} → Agrees w c → (k : Call) → Agrees (next p w k) (cuts-next p 𝓢 c k)
+  next-agrees {w} {c} a k =
+      subst (λ (n : ℕ). Agrees (next p w k) (unless-refused n (cuts-taken p 𝓢 c k) c)) (sym (refusal-agrees a k)) (go (refusal p w k) (taken-agrees a k))
+    where
+      go : (n : ℕ) → (n ≡ 0 → Agrees (taken p w k) (cuts-taken p 𝓢 c k)) → Agrees (unless-refused n (taken p w k) w) (unless-refused n (cuts-taken p 𝓢 c k) c)
+      go zero h = h refl
+      go (suc n) h = a
+
+  pub after-agrees : {w : Watch} {c : Cuts (𝓢 .Set)} → Agrees w c → (ks : List Call) → Agrees (watched p w ks) (cuts-after p 𝓢 c ks)
+  unfolding watched cuts-after
+  after-agrees a [] = a
+  after-agrees a (k ∷ ks) = after-agrees (next-agrees a k) ks
+
+  -- the verdict read off the cuts is the one that stands
+  pub standing-agrees : {w : Watch} {c : Cuts (𝓢 .Set)} → Agrees w c → Standing p w (cuts-verdict p 𝓢 c)
+  standing-agrees (open-run run latest f fit few) = front-verdict-exact p b M 𝓢 laws (Breaks p) run reads fit
+  standing-agrees (blind latest) = refl
+
+  pub open-agrees : {w : Watch} {c : Cuts (𝓢 .Set)} → Agrees w c → cuts-open p 𝓢 c ≡ open-of p w
+  open-agrees (open-run run latest f fit few) = sym (held-is-open p b M 𝓢 laws fit)
+  open-agrees (blind latest) = refl
+
+  -- "there are never more than sixty-five cuts to hold, one before each open input and one after all"
+  pub few-cuts : {w : Watch} {c : Cuts (𝓢 .Set)} → Agrees w c → suc (length (c .front .held)) ≤ 65
+  few-cuts (open-run run latest f fit few) = omega (arith, few)
+  few-cuts (blind latest) = omega arith
+
+  pub answer-agrees : {w : Watch} {c : Cuts (𝓢 .Set)} → Agrees w c → (k : Call) → IsAnswer p w k (cuts-answer p 𝓢 c k)
+  answer-agrees {w} {c} a k =
+      subst (λ (n : ℕ). IsAnswer p w k (unless-refused n (cuts-told p 𝓢 c k) (refused n))) (sym (refusal-agrees a k)) (go (refusal p w k) refl)
+    where
+      taken-told : (k : Call) → refusal p w k ≡ 0 → TakenAnswer p w k (cuts-told p 𝓢 c k)
+      taken-told (Call.line l) e =
+          let a′ : Agrees (with-line p w l) (cuts-with-line p 𝓢 c l) = taken-agrees a (Call.line l) e in
+          record { taken = refl; verdict = cuts-verdict p 𝓢 (cuts-with-line p 𝓢 c l); stands = standing-agrees a′; told = refl; counted = open-agrees a′ }
+      taken-told (Call.mark g) e =
+          record { taken = refl; verdict = cuts-verdict p 𝓢 c; stands = standing-agrees a; told = refl; counted = refl }
+
+      go : (n : ℕ) → refusal p w k ≡ n → AnswerBy n p w k (unless-refused n (cuts-told p 𝓢 c k) (refused n))
+      go zero e = taken-told k e
+      go (suc n) e = refl
