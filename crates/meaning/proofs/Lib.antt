@@ -9,3 +9,5 @@ pub mod Tests
 pub mod Matching
 pub mod Lengths
 pub mod Calls
+pub mod Boundary
+pub mod Histories

@@ -86,6 +86,16 @@ unfoldable pub watched : Property → Watch → List Call → Watch
 watched p w [] = w
 watched p w (c ∷ rest) = watched p (next p w c) rest
 
+-- All of these calls are taken.
+unfoldable pub AllTaken : Property → Watch → List Call → Type 0
+AllTaken p w [] = Unit {0}
+AllTaken p w (c ∷ rest) = (refusal p w c ≡ 0) × AllTaken p (taken p w c) rest
+
+-- Those of the calls that are taken.
+unfoldable pub kept : Property → Watch → List Call → List Call
+kept p w [] = []
+kept p w (c ∷ rest) = unless-refused (refusal p w c) (c ∷ kept p (next p w c) rest) (kept p (next p w c) rest)
+
 -- The verdict that stands: "3 blind, no run is open".
 abbrev pub Standing : Property → Watch → Verdict → Type 0
 Standing p w v = cond (w .is-blind) (v ≡ Verdict.blind) (IsVerdict p (w .run) v)
