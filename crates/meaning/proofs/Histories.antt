@@ -1,1 +1,273 @@
+-- Full histories: what the watcher is blind to, and that from a boundary on its verdict is the one over everything.
+use Prim.Native.Nat.{ℕ, zero, suc, _+_, _*_, _≤_, _<_, max}
+use mathlib.Core.Path.{_≡_, refl, sym, _∙_, ap, subst}
+use mathlib.Core.Bool.{Bool, true, false, cond, not, _&&_, true≢false}
+use mathlib.Core.List.{List, [], _∷_, _++_, append-assoc, append-nil}
+use native.Mathlib.Omega.{arith}
+use native.Mathlib.Nat.{le-refl, le-trans}
+use lib.Dec.{ltb}
+use Rattle.meaning.specs.Limits.{most-open, last-stamp}
+use Rattle.meaning.specs.Words.{Action, Property, Line, Run, StampsFrom}
+use Rattle.meaning.specs.Node.{Verdict, VerdictFor}
+use Rattle.meaning.specs.Numbers.{given, first-of, action-above}
+use Rattle.meaning.specs.Calls.{open-at, Call, Watch, fresh, beyond, with-line, stamp-refusal, refusal, taken, unless-refused, next, watched, AllTaken, kept, Standing}
+use Rattle.meaning.specs.History.{Event, fed, all-lines, MarkedBy, LostMarked, Premises, stamp-of, highest, Quiet, NoMark, BreaksAfter}
+use Rattle.meaning.proofs.Lists.{All, done, also, all-append, all-map, from-all}
+use Rattle.meaning.proofs.Pairs.{Bounds}
+use Rattle.meaning.proofs.Tests.{lt-ltb, ge-ltb}
+use Rattle.meaning.proofs.Channels.{from-right}
+use Rattle.meaning.proofs.Calls.{first-of-none, not-refused-stamp}
+use Rattle.meaning.proofs.Boundary.{Early, Late, whole-verdict}
 
+abbrev blind-watch : ℕ → Watch
+blind-watch t = record { is-blind = true; run = []; latest = t }
+
+abbrev open-watch : Run → ℕ → Watch
+open-watch run t = record { is-blind = false; run = run; latest = t }
+
+-- the lines among calls
+call-lines : List Call → List Line
+call-lines [] = []
+call-lines (Call.line l ∷ ks) = l ∷ call-lines ks
+call-lines (Call.mark g ∷ ks) = call-lines ks
+
+module _ (p : Property) where
+  not-refused-next : (w : Watch) (c : Call) → refusal p w c ≡ 0 → next p w c ≡ taken p w c
+  not-refused-next w c e = ap (λ (n : ℕ). unless-refused n (taken p w c) w) e
+
+  not-refused-late : (w : Watch) (c : Call) → refusal p w c ≡ 0 → w .latest ≤ stamp-of c
+  not-refused-late w (Call.line l) e =
+      not-refused-stamp (w .latest) (l .stamp)
+      (first-of-none (stamp-refusal (w .latest) (l .stamp)) (first-of-none (given 3 (action-above (l .action))) e .1) .0)
+  not-refused-late w (Call.mark g) e = not-refused-stamp (w .latest) g e
+
+  watched-append : (w : Watch) (a c : List Call) → watched p w (a ++ c) ≡ watched p (watched p w a) c
+  unfolding watched
+  watched-append w [] c = refl
+  watched-append w (k ∷ a) c = watched-append (next p w k) a c
+
+  taken-append : (w : Watch) (a c : List Call) → AllTaken p w (a ++ c) → AllTaken p w a × AllTaken p (watched p w a) c
+  unfolding watched AllTaken
+  taken-append w [] c h = (tt, h)
+  taken-append w (k ∷ a) c h =
+      let r : AllTaken p (taken p w k) a × AllTaken p (watched p (taken p w k) a) c = taken-append (taken p w k) a c (h .1) in
+      ((h .0, r .0), subst (λ (x : Watch). AllTaken p (watched p x a) c) (sym (not-refused-next w k (h .0))) (r .1))
+
+  taken-latest : (w : Watch) (c : Call) → taken p w c .latest ≡ stamp-of c
+  taken-latest w (Call.line l) = go (w .is-blind) (beyond p (w .latest) (l .stamp))
+    where
+      go : (x y : Bool)
+        → (cond x
+          (cond y (record { is-blind = false; run = l ∷ []; latest = l .stamp }) (record { is-blind = true; run = []; latest = l .stamp }))
+          (open-watch (w .run ++ l ∷ []) (l .stamp))) .latest ≡ l .stamp
+      go true true = refl
+      go true false = refl
+      go false y = refl
+  taken-latest w (Call.mark g) = refl
+
+  -- the latest stamp is the highest of everything taken or marked
+  latest-highest : (w : Watch) (ks : List Call) → AllTaken p w ks → watched p w ks .latest ≡ highest (w .latest) ks
+  unfolding watched AllTaken highest
+  latest-highest w [] h = refl
+  latest-highest w (k ∷ ks) h =
+      ap (λ (x : Watch). watched p x ks .latest) (not-refused-next w k (h .0))
+      ∙ latest-highest (taken p w k) ks (h .1)
+      ∙ ap (λ (t : ℕ). highest t ks) (taken-latest w k ∙ later (w .latest) (stamp-of k) (not-refused-late w k (h .0)))
+    where
+      later : (s t : ℕ) → s ≤ t → t ≡ max s t
+      later s t q = omega arith
+
+  -- "after the mark, until a line comes more than twice the upper bound after everything taken or marked, the watcher says blind"
+  stays-blind : (t : ℕ) (ks : List Call) → AllTaken p (blind-watch t) ks → Quiet p t ks → watched p (blind-watch t) ks .is-blind ≡ true
+  unfolding watched AllTaken Quiet
+  stays-blind t [] h q = refl
+  stays-blind t (Call.line l ∷ ks) h q =
+      let late : t ≤ l .stamp = not-refused-late (blind-watch t) (Call.line l) (h .0) in
+      let e : max t (l .stamp) ≡ l .stamp = omega arith in
+      let skipped : with-line p (blind-watch t) l ≡ blind-watch (l .stamp) =
+          ap (λ (x : Bool). cond x (open-watch (l ∷ []) (l .stamp)) (blind-watch (l .stamp))) (ge-ltb (q .0)) in
+      ap (λ (x : Watch). watched p x ks .is-blind) (not-refused-next (blind-watch t) (Call.line l) (h .0) ∙ skipped)
+      ∙ stays-blind (l .stamp) ks (subst (λ (x : Watch). AllTaken p x ks) skipped (h .1)) (subst (λ (x : ℕ). Quiet p x ks) e (q .1))
+  stays-blind t (Call.mark g ∷ ks) h q =
+      let late : t ≤ g = not-refused-late (blind-watch t) (Call.mark g) (h .0) in
+      let e : max t g ≡ g = omega arith in
+      ap (λ (x : Watch). watched p x ks .is-blind) (not-refused-next (blind-watch t) (Call.mark g) (h .0))
+      ∙ stays-blind g ks (h .1) (subst (λ (x : ℕ). Quiet p x ks) e q)
+
+  pub blind-until : (before between : List Call) (g : ℕ) → AllTaken p fresh (before ++ Call.mark g ∷ between)
+    → Quiet p (highest 0 (before ++ Call.mark g ∷ [])) between → watched p fresh (before ++ Call.mark g ∷ between) .is-blind ≡ true
+  unfolding watched AllTaken
+  blind-until before between g h q =
+      let r : AllTaken p fresh before × AllTaken p (watched p fresh before) (Call.mark g ∷ between) = taken-append fresh before (Call.mark g ∷ between) h in
+      let w : Watch = watched p fresh before in
+      let top : highest 0 (before ++ Call.mark g ∷ []) ≡ g = sym (latest-highest fresh (before ++ Call.mark g ∷ []) (marked (r .0) (r .1 .0))) ∙ last-mark (r .1 .0) in
+      ap (λ (x : Watch). x .is-blind) (watched-append fresh before (Call.mark g ∷ between))
+      ∙ ap (λ (x : Watch). watched p x between .is-blind) (not-refused-next w (Call.mark g) (r .1 .0))
+      ∙ stays-blind g between (r .1 .1) (subst (λ (t : ℕ). Quiet p t between) top q)
+    where
+      last-mark : refusal p (watched p fresh before) (Call.mark g) ≡ 0 → watched p fresh (before ++ Call.mark g ∷ []) .latest ≡ g
+      last-mark e =
+          ap (λ (x : Watch). x .latest) (watched-append fresh before (Call.mark g ∷ []))
+          ∙ ap (λ (x : Watch). x .latest) (not-refused-next (watched p fresh before) (Call.mark g) e)
+
+      join-taken : (w : Watch) (a : List Call) → AllTaken p w a → refusal p (watched p w a) (Call.mark g) ≡ 0 → AllTaken p w (a ++ Call.mark g ∷ [])
+      join-taken w [] h e = (e, tt)
+      join-taken w (k ∷ a) h e =
+          (h .0, join-taken (taken p w k) a (h .1) (subst (λ (x : Watch). refusal p (watched p x a) (Call.mark g) ≡ 0) (not-refused-next w k (h .0)) e))
+
+      marked : AllTaken p fresh before → refusal p (watched p fresh before) (Call.mark g) ≡ 0 → AllTaken p fresh (before ++ Call.mark g ∷ [])
+      marked = join-taken fresh before
+
+  -- a run goes on to the next mark
+  runs-on : (run : Run) (t : ℕ) (ks : List Call) → AllTaken p (open-watch run t) ks → NoMark ks
+    → (t′ : ℕ) × (watched p (open-watch run t) ks ≡ open-watch (run ++ call-lines ks) t′)
+  unfolding watched AllTaken NoMark call-lines
+  runs-on run t [] h n = (t, ap (λ (r : Run). open-watch r t) (sym (append-nil run)))
+  runs-on run t (Call.line l ∷ ks) h n =
+      let r : ((t′ : ℕ) × (watched p (open-watch (run ++ l ∷ []) (l .stamp)) ks ≡ open-watch ((run ++ l ∷ []) ++ call-lines ks) t′)) =
+          runs-on (run ++ l ∷ []) (l .stamp) ks (h .1) n in
+      ( r .0
+      , ap (λ (x : Watch). watched p x ks) (not-refused-next (open-watch run t) (Call.line l) (h .0))
+        ∙ r .1
+        ∙ ap (λ (x : Run). open-watch x (r .0)) (append-assoc run (l ∷ []) (call-lines ks)) )
+  runs-on run t (Call.mark g ∷ ks) h n = absurd n
+
+-- ---- events
+
+pub fed-append : (a c : List Event) → fed (a ++ c) ≡ fed a ++ fed c
+unfolding fed
+fed-append [] c = refl
+fed-append (Event.line l ∷ a) c = ap (λ (z : List Call). Call.line l ∷ z) (fed-append a c)
+fed-append (Event.lost l ∷ a) c = fed-append a c
+fed-append (Event.mark g ∷ a) c = ap (λ (z : List Call). Call.mark g ∷ z) (fed-append a c)
+
+pub lines-append : (a c : List Event) → all-lines (a ++ c) ≡ all-lines a ++ all-lines c
+unfolding all-lines
+lines-append [] c = refl
+lines-append (Event.line l ∷ a) c = ap (λ (z : List Line). l ∷ z) (lines-append a c)
+lines-append (Event.lost l ∷ a) c = ap (λ (z : List Line). l ∷ z) (lines-append a c)
+lines-append (Event.mark g ∷ a) c = lines-append a c
+
+marked-append : (a c : List Event) → LostMarked (a ++ c) → LostMarked c
+unfolding LostMarked
+marked-append [] c h = h
+marked-append (Event.line l ∷ a) c h = marked-append a c h
+marked-append (Event.lost l ∷ a) c h = marked-append a c (h .1)
+marked-append (Event.mark g ∷ a) c h = marked-append a c h
+
+-- nothing is lost where no mark follows
+no-mark-by : (l : Line) (h : List Event) → MarkedBy l h → NoMark (fed h) → ⊥
+unfolding MarkedBy NoMark fed
+no-mark-by l [] m n = m
+no-mark-by l (Event.line k ∷ h) m n = m
+no-mark-by l (Event.lost k ∷ h) m n = no-mark-by l h m n
+no-mark-by l (Event.mark g ∷ h) m n = n
+
+none-lost : (h : List Event) → LostMarked h → NoMark (fed h) → all-lines h ≡ call-lines (fed h)
+unfolding LostMarked NoMark fed all-lines call-lines
+none-lost [] m n = refl
+none-lost (Event.line l ∷ h) m n = ap (λ (z : List Line). l ∷ z) (none-lost h m n)
+none-lost (Event.lost l ∷ h) m n = absurd (no-mark-by l h (m .0) n)
+none-lost (Event.mark g ∷ h) m n = absurd n
+
+highest-above : (t : ℕ) (ks : List Call) → t ≤ highest t ks
+unfolding highest
+highest-above t [] = le-refl t
+highest-above t (k ∷ ks) = le-trans (lower t (stamp-of k)) (highest-above (max t (stamp-of k)) ks)
+  where
+    lower : (s u : ℕ) → s ≤ max s u
+    lower s u = omega arith
+
+-- a lost line is no later than everything taken or marked before the next line
+lost-below : (t : ℕ) (l : Line) (a : List Event) (x : Line) (c : List Event) → MarkedBy l (a ++ Event.line x ∷ c) → l .stamp ≤ highest t (fed a)
+unfolding MarkedBy fed highest
+lost-below t l [] x c m = absurd m
+lost-below t l (Event.line k ∷ a) x c m = absurd m
+lost-below t l (Event.lost k ∷ a) x c m = lost-below t l a x c m
+lost-below t l (Event.mark g ∷ a) x c m =
+    let h : l .stamp ≤ g = m in le-trans (le-trans h (upper t g)) (highest-above (max t g) (fed a))
+  where
+    upper : (s u : ℕ) → u ≤ max s u
+    upper s u = omega arith
+
+all-below : (t : ℕ) (a : List Event) (x : Line) (c : List Event) → LostMarked (a ++ Event.line x ∷ c)
+  → All (λ (z : Line). z .stamp ≤ highest t (fed a)) (all-lines a)
+unfolding LostMarked fed all-lines highest
+all-below t [] x c m = done
+all-below t (Event.line l ∷ a) x c m = also (le-trans (upper t (l .stamp)) (highest-above (max t (l .stamp)) (fed a))) (all-below (max t (l .stamp)) a x c m)
+  where
+    upper : (s u : ℕ) → u ≤ max s u
+    upper s u = omega arith
+all-below t (Event.lost l ∷ a) x c m = also (lost-below t l a x c (m .0)) (all-below t a x c (m .1))
+all-below t (Event.mark g ∷ a) x c m = all-below (max t g) a x c m
+
+-- ---- demand 3's verdict
+
+module _ (p : Property) (b : Bounds p) (earlier later : List Event) (x : Line) (premises : Premises (earlier ++ Event.line x ∷ later))
+  (takes : AllTaken p fresh (fed (earlier ++ Event.line x ∷ later))) (was-blind : watched p fresh (fed earlier) .is-blind ≡ true)
+  (boundary : highest 0 (fed earlier) + 2 * p .UB < x .stamp) (no-mark : NoMark (fed later)) where
+  run-then : (t : ℕ) × (watched p fresh (fed (earlier ++ Event.line x ∷ later)) ≡ open-watch (x ∷ all-lines later) t)
+  unfolding watched AllTaken fed
+  run-then =
+      let w : Watch = watched p fresh (fed earlier) in
+      let e : fed (earlier ++ Event.line x ∷ later) ≡ fed earlier ++ Call.line x ∷ fed later = fed-append earlier (Event.line x ∷ later) in
+      let h : AllTaken p fresh (fed earlier) × AllTaken p w (Call.line x ∷ fed later) =
+          taken-append p fresh (fed earlier) (Call.line x ∷ fed later) (subst (AllTaken p fresh) e takes) in
+      let top : w .latest ≡ highest 0 (fed earlier) = latest-highest p fresh (fed earlier) (h .0) in
+      let far : beyond p (w .latest) (x .stamp) ≡ true = lt-ltb (subst (λ (t : ℕ). t + 2 * p .UB < x .stamp) (sym top) boundary) in
+      let begins : taken p w (Call.line x) ≡ open-watch (x ∷ []) (x .stamp) =
+          ap (λ (t : Bool). cond t (cond (beyond p (w .latest) (x .stamp)) (open-watch (x ∷ []) (x .stamp)) (blind-watch (x .stamp))) (open-watch (w .run ++ x ∷ []) (x .stamp))) was-blind
+          ∙ ap (λ (t : Bool). cond t (open-watch (x ∷ []) (x .stamp)) (blind-watch (x .stamp))) far in
+      let r : ((t : ℕ) × (watched p (open-watch (x ∷ []) (x .stamp)) (fed later) ≡ open-watch (x ∷ call-lines (fed later)) t)) =
+          runs-on p (x ∷ []) (x .stamp) (fed later) (subst (λ (v : Watch). AllTaken p v (fed later)) begins (h .1 .1)) no-mark in
+      let lost-none : all-lines later ≡ call-lines (fed later) =
+          none-lost later (line-marked (marked-append earlier (Event.line x ∷ later) (premises .lost-marked))) no-mark in
+      ( r .0
+      , ap (watched p fresh) e
+        ∙ watched-append p fresh (fed earlier) (Call.line x ∷ fed later)
+        ∙ ap (λ (v : Watch). watched p v (fed later)) (not-refused-next p w (Call.line x) (h .1 .0) ∙ begins)
+        ∙ r .1
+        ∙ ap (λ (z : List Line). open-watch (x ∷ z) (r .0)) (sym lost-none) )
+    where
+      line-marked : LostMarked (Event.line x ∷ later) → LostMarked later
+      line-marked m = unfold LostMarked in m
+
+  pub history-verdict : (v : Verdict) → Standing p (watched p fresh (fed (earlier ++ Event.line x ∷ later))) v
+    → VerdictFor (BreaksAfter p (all-lines earlier)) p (all-lines (earlier ++ Event.line x ∷ later)) v
+  unfolding all-lines
+  history-verdict v s =
+      let e : all-lines (earlier ++ Event.line x ∷ later) ≡ all-lines earlier ++ x ∷ all-lines later = lines-append earlier (Event.line x ∷ later) in
+      let rising : StampsFrom 0 (all-lines earlier ++ x ∷ all-lines later) = subst (StampsFrom 0) e (premises .never-fall) in
+      let low : All (λ (z : Line). z .stamp ≤ highest 0 (fed earlier)) (all-lines earlier) = all-below 0 earlier x later (premises .lost-marked) in
+      subst (λ (r : Run). VerdictFor (BreaksAfter p (all-lines earlier)) p r v) (sym e)
+      (whole-verdict p b (x .stamp) (all-lines earlier) (x ∷ all-lines later)
+      (all-map (λ z q. let q′ : z .stamp ≤ highest 0 (fed earlier) = q in let far : highest 0 (fed earlier) + 2 * p .UB < x .stamp = boundary in omega arith) low)
+      (also (le-refl (x .stamp)) (from-all (all-lines later) (from-right 0 (all-lines earlier) (x ∷ all-lines later) rising .1)))
+      rising v
+      (subst (λ (w : Watch). Standing p w v) (run-then .1) s))
+
+-- ---- what is refused alters nothing
+
+module _ (p : Property) where
+  pub kept-same : (w : Watch) (ks : List Call) → watched p w (kept p w ks) ≡ watched p w ks
+  unfolding watched kept
+  kept-same w [] = refl
+  kept-same w (k ∷ ks) = go (refusal p w k) refl (kept-same (next p w k) ks)
+    where
+      go : (n : ℕ) → refusal p w k ≡ n → watched p (next p w k) (kept p (next p w k) ks) ≡ watched p (next p w k) ks
+        → watched p w (unless-refused n (k ∷ kept p (next p w k) ks) (kept p (next p w k) ks)) ≡ watched p (next p w k) ks
+      go zero e ih = ih
+      go (suc n) e ih =
+          let same : next p w k ≡ w = ap (λ (i : ℕ). unless-refused i (taken p w k) w) e in
+          ap (λ (x : Watch). watched p x (kept p (next p w k) ks)) (sym same) ∙ ih
+
+  pub kept-taken : (w : Watch) (ks : List Call) → AllTaken p w (kept p w ks)
+  unfolding AllTaken kept
+  kept-taken w [] = tt
+  kept-taken w (k ∷ ks) = go (refusal p w k) refl (kept-taken (next p w k) ks)
+    where
+      go : (n : ℕ) → refusal p w k ≡ n → AllTaken p (next p w k) (kept p (next p w k) ks)
+        → AllTaken p w (unless-refused n (k ∷ kept p (next p w k) ks) (kept p (next p w k) ks))
+      go zero e ih = (e, subst (λ (x : Watch). AllTaken p x (kept p (next p w k) ks)) (not-refused-next p w k e) ih)
+      go (suc n) e ih =
+          subst (λ (x : Watch). AllTaken p x (kept p (next p w k) ks)) (ap (λ (i : ℕ). unless-refused i (taken p w k) w) e) ih
