@@ -20,13 +20,13 @@ append-empty [] b e = (refl, sym e)
 append-empty (x ∷ a) b e = absurd (nil≢cons e)
 
 pub map-split : {A B : Type 0} (f : A → B) (xs : List A) (cs ds : List B) → map f xs ≡ cs ++ ds
-  → (us : List A) × (vs : List A) × (xs ≡ us ++ vs) × (map f us ≡ cs) × (map f vs ≡ ds)
+    → (us : List A) × (vs : List A) × (xs ≡ us ++ vs) × (map f us ≡ cs) × (map f vs ≡ ds)
 map-split f xs [] ds e = ([], xs, refl, refl, e)
 map-split f [] (c ∷ cs) ds e = absurd (nil≢cons e)
 map-split {A} f (x ∷ xs) (c ∷ cs) ds e = go (map-split f xs cs ds (tail-eq-of-cons-eq e))
   where
     go : ((us : List A) × (vs : List A) × (xs ≡ us ++ vs) × (map f us ≡ cs) × (map f vs ≡ ds))
-      → (us : List A) × (vs : List A) × (x ∷ xs ≡ us ++ vs) × (map f us ≡ c ∷ cs) × (map f vs ≡ ds)
+        → (us : List A) × (vs : List A) × (x ∷ xs ≡ us ++ vs) × (map f us ≡ c ∷ cs) × (map f vs ≡ ds)
     go r =
         let h : f x ≡ c = head-eq-of-cons-eq e in
         (x ∷ r .0, r .1, ap (λ l. x ∷ l) (r .2), cc (h, r .3), r .4)
@@ -37,7 +37,7 @@ map-append f (u ∷ us) vs = ap (λ l. f u ∷ l) (map-append f us vs)
 
 -- two ways to split one list
 two-splits : {A : Type 0} (u f v w : List A) → u ++ f ≡ v ++ w
-  → ((m : List A) × (v ≡ u ++ m) × (f ≡ m ++ w)) ⊎ ((y : A) × (m : List A) × (u ≡ v ++ y ∷ m) × (w ≡ y ∷ (m ++ f)))
+    → ((m : List A) × (v ≡ u ++ m) × (f ≡ m ++ w)) ⊎ ((y : A) × (m : List A) × (u ≡ v ++ y ∷ m) × (w ≡ y ∷ (m ++ f)))
 two-splits [] f v w e = inl (v, refl, e)
 two-splits (x ∷ u) f [] w e = inr (x, u, refl, sym e)
 two-splits {A} (x ∷ u) f (z ∷ v) w e = go (two-splits u f v w (tail-eq-of-cons-eq e))
@@ -46,7 +46,7 @@ two-splits {A} (x ∷ u) f (z ∷ v) w e = go (two-splits u f v w (tail-eq-of-co
     same = head-eq-of-cons-eq e
 
     go : ((m : List A) × (v ≡ u ++ m) × (f ≡ m ++ w)) ⊎ ((y : A) × (m : List A) × (u ≡ v ++ y ∷ m) × (w ≡ y ∷ (m ++ f)))
-      → ((m : List A) × (z ∷ v ≡ x ∷ u ++ m) × (f ≡ m ++ w)) ⊎ ((y : A) × (m : List A) × (x ∷ u ≡ z ∷ v ++ y ∷ m) × (w ≡ y ∷ (m ++ f)))
+        → ((m : List A) × (z ∷ v ≡ x ∷ u ++ m) × (f ≡ m ++ w)) ⊎ ((y : A) × (m : List A) × (x ∷ u ≡ z ∷ v ++ y ∷ m) × (w ≡ y ∷ (m ++ f)))
     go (inl r) = inl (r .0, cc (same, r .1), r .2)
     go (inr r) = inr (r .0, r .1, cc (same, r .2), r .3)
 
@@ -68,33 +68,33 @@ module _ (p : Property) (b : Bounds p) (T₀ : ℕ) where
     back-outs : outs back ≡ D
 
   parts : (o A B C D : List Line) → All Early A → All Late B → All Early C → All Late D
-    → ins o ≡ A ++ B → outs o ≡ C ++ D → Pairs p o → Parts A B C D o
+      → ins o ≡ A ++ B → outs o ≡ C ++ D → Pairs p o → Parts A B C D o
   parts [] A B C D ea lb ec ld i o none =
       let qi : (A ≡ []) × (B ≡ []) = append-empty A B i in
       let qo : (C ≡ []) × (D ≡ []) = append-empty C D o in
-      record
-        { front = []
-        ; back = []
-        ; stands = refl
-        ; front-ins = sym (qi .0)
-        ; front-outs = sym (qo .0)
-        ; back-ins = sym (qi .1)
-        ; back-outs = sym (qo .1)
-        }
+      record {
+        front = [];
+        back = [];
+        stands = refl;
+        front-ins = sym (qi .0);
+        front-outs = sym (qo .0);
+        back-ins = sym (qi .1);
+        back-outs = sym (qo .1);
+      }
   parts (l ∷ u) A B C D ea lb ec ld i o (first may r) =
       pick (in-or-out (l .action)) (λ A′ C′ ea′ ec′ i′ o′. parts u A′ B C′ D ea′ lb ec′ ld i′ o′ r)
     where
       whole : ins (l ∷ u) ≡ B → outs (l ∷ u) ≡ D → A ≡ [] → C ≡ [] → Parts A B C D (l ∷ u)
       whole bi bo ai co =
-          record
-            { front = []
-            ; back = l ∷ u
-            ; stands = refl
-            ; front-ins = sym ai
-            ; front-outs = sym co
-            ; back-ins = bi
-            ; back-outs = bo
-            }
+          record {
+            front = [];
+            back = l ∷ u;
+            stands = refl;
+            front-ins = sym ai;
+            front-outs = sym co;
+            back-ins = bi;
+            back-outs = bo;
+          }
 
       -- an input of the run cannot stand before an earlier output, nor an output of the run before an earlier input
       input-late : (C′ : List Line) (c : Line) → C ≡ c ∷ C′ → In l → Late l → ⊥
@@ -119,27 +119,27 @@ module _ (p : Property) (b : Bounds p) (T₀ : ℕ) where
 
       longer-in : In l → (A′ : List Line) → A ≡ l ∷ A′ → Parts A′ B C D u → Parts A B C D (l ∷ u)
       longer-in h A′ e k =
-          record
-            { front = l ∷ k .front
-            ; back = k .back
-            ; stands = ap (λ (z : List Line). l ∷ z) (k .stands)
-            ; front-ins = ins-cons l (k .front) h ∙ ap (λ (z : List Line). l ∷ z) (k .front-ins) ∙ sym e
-            ; front-outs = outs-skip l (k .front) h ∙ k .front-outs
-            ; back-ins = k .back-ins
-            ; back-outs = k .back-outs
-            }
+          record {
+            front = l ∷ k .front;
+            back = k .back;
+            stands = ap (λ (z : List Line). l ∷ z) (k .stands);
+            front-ins = ins-cons l (k .front) h ∙ ap (λ (z : List Line). l ∷ z) (k .front-ins) ∙ sym e;
+            front-outs = outs-skip l (k .front) h ∙ k .front-outs;
+            back-ins = k .back-ins;
+            back-outs = k .back-outs;
+          }
 
       longer-out : Out l → (C′ : List Line) → C ≡ l ∷ C′ → Parts A B C′ D u → Parts A B C D (l ∷ u)
       longer-out h C′ e k =
-          record
-            { front = l ∷ k .front
-            ; back = k .back
-            ; stands = ap (λ (z : List Line). l ∷ z) (k .stands)
-            ; front-ins = ins-skip l (k .front) h ∙ k .front-ins
-            ; front-outs = outs-cons l (k .front) h ∙ ap (λ (z : List Line). l ∷ z) (k .front-outs) ∙ sym e
-            ; back-ins = k .back-ins
-            ; back-outs = k .back-outs
-            }
+          record {
+            front = l ∷ k .front;
+            back = k .back;
+            stands = ap (λ (z : List Line). l ∷ z) (k .stands);
+            front-ins = ins-skip l (k .front) h ∙ k .front-ins;
+            front-outs = outs-cons l (k .front) h ∙ ap (λ (z : List Line). l ∷ z) (k .front-outs) ∙ sym e;
+            back-ins = k .back-ins;
+            back-outs = k .back-outs;
+          }
 
       Rest : Type 0
       Rest = (A′ C′ : List Line) → All Early A′ → All Early C′ → ins u ≡ A′ ++ B → outs u ≡ C′ ++ D → Parts A′ B C′ D u
@@ -186,24 +186,24 @@ module _ (p : Property) (b : Bounds p) (T₀ : ℕ) where
     split {o} e =
         let c : Pairs p o = explains-pairs p b e in
         let k : Parts (ins earlier) (ins run) (outs earlier) (outs run) o =
-            parts o (ins earlier) (ins run) (outs earlier) (outs run) (all-ins early) (all-ins late) (all-outs early) (all-outs late)
-            (e .is-order .inputs-kept ∙ ins-append earlier run) (e .is-order .outputs-kept ∙ outs-append earlier run) c in
+        parts o (ins earlier) (ins run) (outs earlier) (outs run) (all-ins early) (all-ins late) (all-outs early) (all-outs late)
+        (e .is-order .inputs-kept ∙ ins-append earlier run) (e .is-order .outputs-kept ∙ outs-append earlier run) c in
         let c′ : Pairs p (k .front ++ k .back) = subst (Pairs p) (k .stands) c in
-        record
-          { front = k .front
-          ; back = k .back
-          ; stands = k .stands
-          ; front-explains = pairs-explain p b (record { inputs-kept = k .front-ins; outputs-kept = k .front-outs }) (pairs-left (k .front) (k .back) c′)
-          ; back-explains = pairs-explain p b (record { inputs-kept = k .back-ins; outputs-kept = k .back-outs }) (pairs-right (k .front) (k .back) c′)
-          }
+        record {
+          front = k .front;
+          back = k .back;
+          stands = k .stands;
+          front-explains = pairs-explain p b (record { inputs-kept = k .front-ins; outputs-kept = k .front-outs }) (pairs-left (k .front) (k .back) c′);
+          back-explains = pairs-explain p b (record { inputs-kept = k .back-ins; outputs-kept = k .back-outs }) (pairs-right (k .front) (k .back) c′);
+        }
 
     join : {e f : List Line} → Explanation p earlier e → Explanation p run f → Explanation p (earlier ++ run) (e ++ f)
     join {e} {f} he hf =
         pairs-explain p b
-        (record
-          { inputs-kept = ins-append e f ∙ ap (λ (z : List Line). z ++ ins f) (he .is-order .inputs-kept) ∙ ap (λ (z : List Line). ins earlier ++ z) (hf .is-order .inputs-kept) ∙ sym (ins-append earlier run)
-          ; outputs-kept = outs-append e f ∙ ap (λ (z : List Line). z ++ outs f) (he .is-order .outputs-kept) ∙ ap (λ (z : List Line). outs earlier ++ z) (hf .is-order .outputs-kept) ∙ sym (outs-append earlier run)
-          })
+        (record {
+          inputs-kept = ins-append e f ∙ ap (λ (z : List Line). z ++ ins f) (he .is-order .inputs-kept) ∙ ap (λ (z : List Line). ins earlier ++ z) (hf .is-order .inputs-kept) ∙ sym (ins-append earlier run);
+          outputs-kept = outs-append e f ∙ ap (λ (z : List Line). z ++ outs f) (he .is-order .outputs-kept) ∙ ap (λ (z : List Line). outs earlier ++ z) (hf .is-order .outputs-kept) ∙ sym (outs-append earlier run);
+        })
         (pairs-append (explains-pairs p b he) (explains-pairs p b hf) cross)
       where
         late-ins : All (λ z. In z × Late z) (ins f)
@@ -223,18 +223,18 @@ module _ (p : Property) (b : Bounds p) (T₀ : ℕ) where
             all-channels e
             (all-map
             (λ x h.
-              let hx : x .stamp + 2 * p .UB < T₀ = h .1 in
-              let ord : p .LB ≤ p .UB = b .order in
-              all-channels f
-              (all-map (λ z q. let hz : T₀ ≤ z .stamp = q .1 in in-in p b x z (h .0) (q .0) (omega arith)) late-ins)
-              (all-map (λ z q. let hz : T₀ ≤ z .stamp = q .1 in in-out p x z (h .0) (q .0) (omega arith)) late-outs))
+            let hx : x .stamp + 2 * p .UB < T₀ = h .1 in
+            let ord : p .LB ≤ p .UB = b .order in
+            all-channels f
+            (all-map (λ z q. let hz : T₀ ≤ z .stamp = q .1 in in-in p b x z (h .0) (q .0) (omega arith)) late-ins)
+            (all-map (λ z q. let hz : T₀ ≤ z .stamp = q .1 in in-out p x z (h .0) (q .0) (omega arith)) late-outs))
             early-ins)
             (all-map
             (λ y h.
-              let hy : y .stamp + 2 * p .UB < T₀ = h .1 in
-              all-channels f
-              (all-map (λ z q. let hz : T₀ ≤ z .stamp = q .1 in out-in p y z (h .0) (q .0) (omega arith)) late-ins)
-              (all-map (λ z q. let hz : T₀ ≤ z .stamp = q .1 in out-out p b y z (h .0) (q .0) (omega arith)) late-outs))
+            let hy : y .stamp + 2 * p .UB < T₀ = h .1 in
+            all-channels f
+            (all-map (λ z q. let hz : T₀ ≤ z .stamp = q .1 in out-in p y z (h .0) (q .0) (omega arith)) late-ins)
+            (all-map (λ z q. let hz : T₀ ≤ z .stamp = q .1 in out-out p b y z (h .0) (q .0) (omega arith)) late-outs))
             early-outs)
 
     -- a breach that begins in the run is one of the run's part alone
@@ -244,7 +244,7 @@ module _ (p : Property) (b : Bounds p) (T₀ : ℕ) where
 
       -- what stands behind `before` and was logged later stands behind all of e
       not-inside : (before : List Line) (a : Action) (t : ℕ) (m : List Line) → e ≡ before ++ record { action = a; stamp = t } ∷ m
-        → LoggedAfter earlier before a → ⊥
+          → LoggedAfter earlier before a → ⊥
       not-inside before (Action.input k) t m q g =
           let x : Line = record { action = Action.input k; stamp = t } in
           let c : ins before ++ x ∷ ins m ≡ ins earlier = sym (ins-append before (x ∷ m)) ∙ ap ins (sym q) ∙ he .is-order .inputs-kept in
@@ -260,15 +260,15 @@ module _ (p : Property) (b : Bounds p) (T₀ : ℕ) where
       breach-there h = go (two-splits e f (h .before) (h .first ∷ h .behind) (h .stands))
         where
           go : ((m : List Line) × (h .before ≡ e ++ m) × (f ≡ m ++ h .first ∷ h .behind))
-            ⊎ ((y : Line) × (m : List Line) × (e ≡ h .before ++ y ∷ m) × (h .first ∷ h .behind ≡ y ∷ (m ++ f))) → Breaks p f
+              ⊎ ((y : Line) × (m : List Line) × (e ≡ h .before ++ y ∷ m) × (h .first ∷ h .behind ≡ y ∷ (m ++ f))) → Breaks p f
           go (inl r) =
-              record
-                { before = actions (r .0)
-                ; answer = h .answer
-                ; after = h .after
-                ; occurs = ap actions (r .2) ∙ map-append (λ (l : Line). l .action) (r .0) (h .first ∷ h .behind) ∙ ap (λ (z : List Action). actions (r .0) ++ z) (h .occurs)
-                ; outside = h .outside
-                }
+              record {
+                before = actions (r .0);
+                answer = h .answer;
+                after = h .after;
+                occurs = ap actions (r .2) ∙ map-append (λ (l : Line). l .action) (r .0) (h .first ∷ h .behind) ∙ ap (λ (z : List Action). actions (r .0) ++ z) (h .occurs);
+                outside = h .outside;
+              }
           go (inr r) =
               absurd
               (not-inside (h .before) (h .first .action) (h .first .stamp) (r .1)
@@ -295,20 +295,20 @@ module _ (p : Property) (b : Bounds p) (T₀ : ℕ) where
           make : (us vs : List Line) → f ≡ us ++ vs → actions vs ≡ p .sequence ++ Action.output (h .answer) ∷ h .after → BreaksAfter p earlier (e ++ f)
           make us [] s q = absurd (not-nothing (p .sequence) q)
           make us (x ∷ vs) s q =
-              record
-                { before = e ++ us
-                ; first = x
-                ; behind = vs
-                ; stands = ap (λ (z : List Line). e ++ z) s ∙ sym (append-assoc e us (x ∷ vs))
-                ; begins = logged us (x .action)
-                ; answer = h .answer
-                ; after = h .after
-                ; occurs = q
-                ; outside = h .outside
-                }
+              record {
+                before = e ++ us;
+                first = x;
+                behind = vs;
+                stands = ap (λ (z : List Line). e ++ z) s ∙ sym (append-assoc e us (x ∷ vs));
+                begins = logged us (x .action);
+                answer = h .answer;
+                after = h .after;
+                occurs = q;
+                outside = h .outside;
+              }
 
           go : ((us : List Line) × (vs : List Line) × (f ≡ us ++ vs) × (actions us ≡ h .before) × (actions vs ≡ p .sequence ++ Action.output (h .answer) ∷ h .after))
-            → BreaksAfter p earlier (e ++ f)
+              → BreaksAfter p earlier (e ++ f)
           go r = make (r .0) (r .1) (r .2) (r .4)
 
     -- so the verdict on the run alone is the one over everything, for breaches that begin in the run
@@ -317,17 +317,18 @@ module _ (p : Property) (b : Bounds p) (T₀ : ℕ) where
         let k : Split o = split ex in
         h (k .back) (k .back-explains) (breach-there (k .front) (k .back) (k .front-explains) (subst (BreaksAfter p earlier) (k .stands) br))
     whole-verdict Verdict.suspect h =
-        let x : Some p earlier (λ o. Unit {0}) = explanation-exists p b earlier 0 (from-left 0 earlier run rising) in
-        ( record
-            { order = x .order ++ h .0 .order
-            ; explains = join (x .explains) (h .0 .explains)
-            ; holds = breach-back (x .order) (h .0 .order) (x .explains) (h .0 .holds)
-            }
-        , record
-            { order = x .order ++ h .1 .order
-            ; explains = join (x .explains) (h .1 .explains)
-            ; holds = λ br. h .1 .holds (breach-there (x .order) (h .1 .order) (x .explains) br)
-            } )
+        let x : Some p earlier (λ o. Unit {0}) = explanation-exists p b earlier 0 (from-left 0 earlier run rising) in (
+          record {
+            order = x .order ++ h .0 .order;
+            explains = join (x .explains) (h .0 .explains);
+            holds = breach-back (x .order) (h .0 .order) (x .explains) (h .0 .holds);
+          },
+          record {
+            order = x .order ++ h .1 .order;
+            explains = join (x .explains) (h .1 .explains);
+            holds = λ br. h .1 .holds (breach-there (x .order) (h .1 .order) (x .explains) br);
+          },
+        )
     whole-verdict Verdict.certain h = λ o ex.
         let k : Split o = split ex in
         subst (BreaksAfter p earlier) (sym (k .stands)) (breach-back (k .front) (k .back) (k .front-explains) (h (k .back) (k .back-explains)))

@@ -14,6 +14,7 @@ use Rattle.meaning.specs.Numbers.{given, first-of, action-above}
 use Rattle.meaning.specs.Calls.{is-open, open-at, Call, Watch, fresh, beyond, with-line, with-mark, stamp-refusal, line-refusal, refusal, taken, unless-refused, next, watched, Standing, open-of, Answer, refused, Told, TakenAnswer, AnswerBy, IsAnswer}
 use Rattle.meaning.specs.Step.{Sets, Held, Front, Cuts, last-set, closed, appended, swept, front-next, front-with, fresh-front, no-front, fresh-cuts, verdict-of, front-verdict, cuts-verdict, cuts-open, cuts-with-line, cuts-with-mark, cuts-line-refusal, cuts-refusal, cuts-taken, cuts-next, told, cuts-told, cuts-answer, cuts-after}
 use Rattle.meaning.proofs.Pairs.{Bounds}
+use Rattle.meaning.proofs.Facts.{verdict-unique}
 use Rattle.meaning.proofs.Sets.{Matcher, along, SetLaws}
 use Rattle.meaning.proofs.Exact.{Fits, fresh-fits, front-fits, held-is-open, front-verdict-exact}
 
@@ -37,10 +38,10 @@ pub not-refused-stamp : (latest t : ℕ) → stamp-refusal latest t ≡ 0 → la
 not-refused-stamp latest t e = not-below t latest (given-none 4 (ltb t latest) (first-of-none (given 4 (ltb last-stamp t)) e .1))
 
 module _ (p : Property) (b : Bounds p) (M : Matcher) (𝓢 : Sets) (laws : SetLaws M 𝓢)
-  (reads : (order : List Line) → (M .is-broken (along M (M .begin) order) ≡ true) ↔ Breaks p order) where
+    (reads : (order : List Line) → (M .is-broken (along M (M .begin) order) ≡ true) ↔ Breaks p order) where
   pub data Agrees : Watch → Cuts (𝓢 .Set) → Type 0 where
     open-run : (run : Run) (latest : ℕ) (f : Front (𝓢 .Set)) → Fits p b M 𝓢 laws latest run f → length (f .held) ≤ most-open
-      → Agrees (record { is-blind = false; run = run; latest = latest }) (record { is-blind = false; front = f; latest = latest })
+        → Agrees (record { is-blind = false; run = run; latest = latest }) (record { is-blind = false; front = f; latest = latest })
     blind : (latest : ℕ) → Agrees (record { is-blind = true; run = []; latest = latest }) (record { is-blind = true; front = no-front p 𝓢; latest = latest })
 
   pub fresh-agrees : Agrees fresh (fresh-cuts p 𝓢)
@@ -65,18 +66,18 @@ module _ (p : Property) (b : Bounds p) (M : Matcher) (𝓢 : Sets) (laws : SetLa
   pub taken-agrees : {w : Watch} {c : Cuts (𝓢 .Set)} → Agrees w c → (k : Call) → refusal p w k ≡ 0 → Agrees (taken p w k) (cuts-taken p 𝓢 c k)
   taken-agrees (open-run run latest f fit few) (Call.line l) e =
       let r : (given 3 (action-above (l .action)) ≡ 0) × (first-of (stamp-refusal latest (l .stamp)) (given 6 (ltb most-open (open-at p (l .stamp) (run ++ l ∷ [])))) ≡ 0) =
-          first-of-none (given 3 (action-above (l .action))) e in
+      first-of-none (given 3 (action-above (l .action))) e in
       let q : (stamp-refusal latest (l .stamp) ≡ 0) × (given 6 (ltb most-open (open-at p (l .stamp) (run ++ l ∷ []))) ≡ 0) =
-          first-of-none (stamp-refusal latest (l .stamp)) (r .1) in
+      first-of-none (stamp-refusal latest (l .stamp)) (r .1) in
       let fit′ : Fits p b M 𝓢 laws (l .stamp) (run ++ l ∷ []) (front-with p 𝓢 f l) =
-          front-fits p b M 𝓢 laws latest run f fit l (not-refused-stamp latest (l .stamp) (q .0)) in
+      front-fits p b M 𝓢 laws latest run f fit l (not-refused-stamp latest (l .stamp) (q .0)) in
       open-run (run ++ l ∷ []) (l .stamp) (front-with p 𝓢 f l) fit′
       (subst (λ (n : ℕ). n ≤ most-open) (held-is-open p b M 𝓢 laws fit′) (not-below most-open (open-at p (l .stamp) (run ++ l ∷ [])) (given-none 5 _ (q .1))))
   taken-agrees (open-run run latest f fit few) (Call.mark g) e = blind g
   taken-agrees (blind latest) (Call.line l) e = go (beyond p latest (l .stamp))
     where
       go : (t : Bool)
-        → Agrees
+          → Agrees
           (cond t (record { is-blind = false; run = l ∷ []; latest = l .stamp }) (record { is-blind = true; run = []; latest = l .stamp }))
           (cond t
           (record { is-blind = false; front = front-with p 𝓢 (fresh-front p 𝓢) l; latest = l .stamp })
@@ -129,3 +130,27 @@ module _ (p : Property) (b : Bounds p) (M : Matcher) (𝓢 : Sets) (laws : SetLa
       go : (n : ℕ) → refusal p w k ≡ n → AnswerBy n p w k (unless-refused n (cuts-told p 𝓢 c k) (refused n))
       go zero e = taken-told k e
       go (suc n) e = refl
+
+  -- one verdict stands, and a call has one answer
+  pub standing-unique : {w : Watch} {c : Cuts (𝓢 .Set)} → Agrees w c → (u v : Verdict) → Standing p w u → Standing p w v → u ≡ v
+  standing-unique (open-run run latest f fit few) u v h k = verdict-unique p b run 0 (fit .rising) (Breaks p) u v h k
+  standing-unique (blind latest) u v h k = h ∙ sym k
+
+  told-unique : {w : Watch} {c : Cuts (𝓢 .Set)} → Agrees w c → (n : ℕ) (x y : Answer) → Told p w n x → Told p w n y → x ≡ y
+  told-unique a n x y h k =
+      let v : h .verdict ≡ k .verdict = standing-unique a (h .verdict) (k .verdict) (h .stands) (k .stands) in
+      let r : x .refusal ≡ y .refusal = h .taken ∙ sym (k .taken) in
+      let t : x .verdict ≡ y .verdict = h .told ∙ ap verdict-number v ∙ sym (k .told) in
+      let o : x .open-count ≡ y .open-count = h .counted ∙ sym (k .counted) in
+      λ i. record { refusal = r i; verdict = t i; open-count = o i }
+
+  pub answer-unique : {w : Watch} {c : Cuts (𝓢 .Set)} → Agrees w c → (k : Call) (x y : Answer) → IsAnswer p w k x → IsAnswer p w k y → x ≡ y
+  answer-unique {w} {c} a k x y h h′ = go (refusal p w k) refl h h′
+    where
+      taken-unique : (k : Call) → refusal p w k ≡ 0 → TakenAnswer p w k x → TakenAnswer p w k y → x ≡ y
+      taken-unique (Call.line l) e t t′ = told-unique (taken-agrees a (Call.line l) e) (open-of p (with-line p w l)) x y t t′
+      taken-unique (Call.mark g) e t t′ = told-unique a 0 x y t t′
+
+      go : (n : ℕ) → refusal p w k ≡ n → AnswerBy n p w k x → AnswerBy n p w k y → x ≡ y
+      go zero e t t′ = taken-unique k e t t′
+      go (suc n) e t t′ = t ∙ sym t′

@@ -156,14 +156,14 @@ last-highest t xs x f = all-append (all-map (λ z h. all-head h) (from-cross t x
 
 -- What holds of the last of one list and the first of the other, and of stamps further out, holds of all.
 pub innermost : (t : ℕ) (R : ℕ → ℕ → Type 0) → ((a a′ d d′ : ℕ) → a′ ≤ a → d ≤ d′ → R a d → R a′ d′)
-  → (xs ys : List Line) → StampsFrom t xs → StampsFrom t ys
-  → ((bs : List Line) (x y : Line) (ds : List Line) → xs ≡ bs ++ x ∷ [] → ys ≡ y ∷ ds → R (x .stamp) (y .stamp))
-  → All (λ (x : Line). All (λ (y : Line). R (x .stamp) (y .stamp)) ys) xs
+    → (xs ys : List Line) → StampsFrom t xs → StampsFrom t ys
+    → ((bs : List Line) (x y : Line) (ds : List Line) → xs ≡ bs ++ x ∷ [] → ys ≡ y ∷ ds → R (x .stamp) (y .stamp))
+    → All (λ (x : Line). All (λ (y : Line). R (x .stamp) (y .stamp)) ys) xs
 innermost t R wider xs ys fx fy h = go (end-of xs) ys fx fy h
   where
     go : {xs : List Line} → Ended xs → (ys : List Line) → StampsFrom t xs → StampsFrom t ys
-      → ((bs : List Line) (x y : Line) (ds : List Line) → xs ≡ bs ++ x ∷ [] → ys ≡ y ∷ ds → R (x .stamp) (y .stamp))
-      → All (λ (x : Line). All (λ (y : Line). R (x .stamp) (y .stamp)) ys) xs
+        → ((bs : List Line) (x y : Line) (ds : List Line) → xs ≡ bs ++ x ∷ [] → ys ≡ y ∷ ds → R (x .stamp) (y .stamp))
+        → All (λ (x : Line). All (λ (y : Line). R (x .stamp) (y .stamp)) ys) xs
     go empty ys fx fy h = done
     go (ended bs x) [] fx fy h = all-of (λ z. done) (bs ++ x ∷ [])
     go (ended bs x) (y ∷ ds) fx fy h =
@@ -234,9 +234,9 @@ module _ (p : Property) where
 
   module _ (b : Bounds p) where
     into-pairs : (t : ℕ) (x : Line) (rec : List Line → List Line) (i : List Line) → In x → All In i → Keeps i rec
-      → All (λ (z : Line). x .stamp ≤ z .stamp) i
-      → ((o : List Line) → All Out o → (s : ℕ) → StampsFrom s o → Pairs p (rec o))
-      → (o : List Line) → All Out o → StampsFrom t o → Pairs p (into x rec o)
+        → All (λ (z : Line). x .stamp ≤ z .stamp) i
+        → ((o : List Line) → All Out o → (s : ℕ) → StampsFrom s o → Pairs p (rec o))
+        → (o : List Line) → All Out o → StampsFrom t o → Pairs p (into x rec o)
     unfolding into
     into-pairs t x rec i h hi k le pr [] done f =
         first (all-rec rec i [] k done (all-map (λ z e. in-in p b x z h (e .0) (e .1)) (all-both hi le)) done) (pr [] done t tt)
@@ -244,7 +244,7 @@ module _ (p : Property) where
         go (leb (x .stamp + 2 * p .LB) (y .stamp)) (leb→le _ _) (nleb→lt _ _) (into-pairs (y .stamp) x rec i h hi k le pr o r (f .1))
       where
         go : (c : Bool) → (T c → x .stamp + 2 * p .LB ≤ y .stamp) → (T (not c) → y .stamp < x .stamp + 2 * p .LB)
-          → Pairs p (into x rec o) → Pairs p (cond c (x ∷ rec (y ∷ o)) (y ∷ into x rec o))
+            → Pairs p (into x rec o) → Pairs p (cond c (x ∷ rec (y ∷ o)) (y ∷ into x rec o))
         go true yes′ no′ e =
             let ys : All (λ (z : Line). y .stamp ≤ z .stamp) o = from-all o (f .1) in
             first

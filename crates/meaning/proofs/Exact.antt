@@ -85,14 +85,14 @@ module _ (p : Property) (b : Bounds p) (M : Matcher) (𝓢 : Sets) (laws : SetLa
   pub data Right (O : List Line) : List Line → 𝓢 .Set → List (Held (𝓢 .Set)) → Type 0 where
     last : {behind : List Line} {a : 𝓢 .Set} → Exact O behind [] a → Right O behind a []
     cut : {behind : List Line} {a : 𝓢 .Set} {h : Held (𝓢 .Set)} {hs : List (Held (𝓢 .Set))}
-      → Exact O behind (h .line ∷ lines hs) a → Right O (behind ++ h .line ∷ []) (h .after) hs → Right O behind a (h ∷ hs)
+        → Exact O behind (h .line ∷ lines hs) a → Right O (behind ++ h .line ∷ []) (h .after) hs → Right O behind a (h ∷ hs)
 
   here : {O behind : List Line} {a : 𝓢 .Set} {hs : List (Held (𝓢 .Set))} → Right O behind a hs → Exact O behind (lines hs) a
   here (last e) = e
   here (cut e r) = e
 
   last-exact : {O behind : List Line} {a : 𝓢 .Set} {hs : List (Held (𝓢 .Set))} → Right O behind a hs
-    → Exact O (behind ++ lines hs) [] (last-set p 𝓢 a hs)
+      → Exact O (behind ++ lines hs) [] (last-set p 𝓢 a hs)
   unfolding last-set
   last-exact {O} {behind} {a} (last e) = subst (λ (l : List Line). Exact O l [] a) (sym (append-nil behind)) e
   last-exact {O} {behind} (cut {h = h} {hs = hs} e r) =
@@ -102,33 +102,33 @@ module _ (p : Property) (b : Bounds p) (M : Matcher) (𝓢 : Sets) (laws : SetLa
   module _ {O behind ahead : List Line} where
     longer-in : (x : Line) {r s : M .State} → In x → Way O behind (x ∷ ahead) r → M .step r x ≡ s → Way O (behind ++ x ∷ []) ahead s
     longer-in x i w e =
-        record
-          { order = w .order ++ x ∷ []
-          ; ins-are = ins-last-in (w .order) x i ∙ ap (λ (l : List Line). l ++ x ∷ []) (w .ins-are)
-          ; outs-are = outs-last-in (w .order) x i ∙ w .outs-are
-          ; pairs = subst (Pairs p) (sym (snoc-append (w .order) x ahead)) (w .pairs)
-          ; remembers = along-last M (M .begin) (w .order) x ∙ ap (λ (q : M .State). M .step q x) (w .remembers) ∙ e
-          }
+        record {
+          order = w .order ++ x ∷ [];
+          ins-are = ins-last-in (w .order) x i ∙ ap (λ (l : List Line). l ++ x ∷ []) (w .ins-are);
+          outs-are = outs-last-in (w .order) x i ∙ w .outs-are;
+          pairs = subst (Pairs p) (sym (snoc-append (w .order) x ahead)) (w .pairs);
+          remembers = along-last M (M .begin) (w .order) x ∙ ap (λ (q : M .State). M .step q x) (w .remembers) ∙ e;
+        }
 
     longer-out : (y : Line) {r s : M .State} → Out y → All (λ z. May p z y) behind → All (λ z. May p z y) O → All (May p y) ahead
-      → Way O behind ahead r → M .step r y ≡ s → Way (O ++ y ∷ []) behind ahead s
+        → Way O behind ahead r → M .step r y ≡ s → Way (O ++ y ∷ []) behind ahead s
     longer-out y o hb hO ha w e =
-        record
-          { order = w .order ++ y ∷ []
-          ; ins-are = ins-last-out (w .order) y o ∙ w .ins-are
-          ; outs-are = outs-last-out (w .order) y o ∙ ap (λ (l : List Line). l ++ y ∷ []) (w .outs-are)
-          ; pairs =
+        record {
+          order = w .order ++ y ∷ [];
+          ins-are = ins-last-out (w .order) y o ∙ w .ins-are;
+          outs-are = outs-last-out (w .order) y o ∙ ap (λ (l : List Line). l ++ y ∷ []) (w .outs-are);
+          pairs =
               pairs-insert p (w .order) ahead y (w .pairs)
               (all-channels (w .order) (subst (All (λ z. May p z y)) (sym (w .ins-are)) hb) (subst (All (λ z. May p z y)) (sym (w .outs-are)) hO))
-              ha
-          ; remembers = along-last M (M .begin) (w .order) y ∙ ap (λ (q : M .State). M .step q y) (w .remembers) ∙ e
-          }
+              ha;
+          remembers = along-last M (M .begin) (w .order) y ∙ ap (λ (q : M .State). M .step q y) (w .remembers) ∙ e;
+        }
 
   -- one line less: a way ends with its last input or with the newest output
   data Last (O behind ahead : List Line) (y : Line) (s : M .State) : Type 0 where
     by-output : (r : M .State) → Way O behind ahead r → M .step r y ≡ s → All (λ z. May p z y) behind → Last O behind ahead y s
     by-input : (front : List Line) (x : Line) (r : M .State) → behind ≡ front ++ x ∷ [] → Way (O ++ y ∷ []) front (x ∷ ahead) r → M .step r x ≡ s
-      → Last O behind ahead y s
+        → Last O behind ahead y s
 
   last-of : {O behind ahead : List Line} {y : Line} {s : M .State} → Way (O ++ y ∷ []) behind ahead s → Last O behind ahead y s
   last-of {O} {behind} {ahead} {y} {s} w = go (end-of (w .order)) (w .ins-are) (w .outs-are) (w .pairs) (w .remembers)
@@ -143,13 +143,13 @@ module _ (p : Property) (b : Bounds p) (M : Matcher) (𝓢 : Sets) (laws : SetLa
           pick : IsIn (z .action) ⊎ IsOut (z .action) → Last O behind ahead y s
           pick (inl h) =
               by-input (ins v) z (along M (M .begin) v) (sym i ∙ ins-last-in v z h)
-              (record
-                { order = v
-                ; ins-are = refl
-                ; outs-are = sym (outs-last-in v z h) ∙ o
-                ; pairs = subst (Pairs p) (snoc-append v z ahead) c
-                ; remembers = refl
-                })
+              (record {
+                order = v;
+                ins-are = refl;
+                outs-are = sym (outs-last-in v z h) ∙ o;
+                pairs = subst (Pairs p) (snoc-append v z ahead) c;
+                remembers = refl;
+              })
               step-eq
           pick (inr h) =
               let e : (outs v ≡ O) × (z ≡ y) = same-end (outs v) O z y (sym (outs-last-out v z h) ∙ o) in
@@ -164,7 +164,7 @@ module _ (p : Property) (b : Bounds p) (M : Matcher) (𝓢 : Sets) (laws : SetLa
   module _ (O : List Line) (y : Line) (o : Out y) (hO : All (λ z. May p z y) O) where
     -- the first cut: all inputs behind it have closed
     first-cut : {behind ahead : List Line} {a : 𝓢 .Set} → All In behind → All (λ (z : Line). z .stamp + 2 * p .UB < y .stamp) behind
-      → All (May p y) ahead → Exact O behind ahead a → Exact (O ++ y ∷ []) behind ahead (𝓢 .move a y)
+        → All (May p y) ahead → Exact O behind ahead a → Exact (O ++ y ∷ []) behind ahead (𝓢 .move a y)
     first-cut {behind} {ahead} {a} hi gone ha e s = (there, back)
       where
         before-y : All (λ z. May p z y) behind
@@ -185,9 +185,9 @@ module _ (p : Property) (b : Bounds p) (M : Matcher) (𝓢 : Sets) (laws : SetLa
             go (by-output r v m k) = laws .member-move a y s .1 (r, e r .1 v, m)
             go (by-input front x r eb v m) =
                 let hx : In x × (x .stamp + 2 * p .UB < y .stamp) =
-                    all-head (all-right front (x ∷ []) (subst (All (λ (z : Line). In z × (z .stamp + 2 * p .UB < y .stamp))) eb (all-both hi gone))) in
+                all-head (all-right front (x ∷ []) (subst (All (λ (z : Line). In z × (z .stamp + 2 * p .UB < y .stamp))) eb (all-both hi gone))) in
                 let may : All (λ z. All (May p z) (x ∷ ahead)) (O ++ y ∷ []) =
-                    subst (All (λ z. All (May p z) (x ∷ ahead))) (v .outs-are) (all-outs (pairs-cross (v .order) (x ∷ ahead) (v .pairs))) in
+                subst (All (λ z. All (May p z) (x ∷ ahead))) (v .outs-are) (all-outs (pairs-cross (v .order) (x ∷ ahead) (v .pairs))) in
                 let le : y .stamp ≤ x .stamp + 2 * p .UB = out-in-asks p y x o (hx .0) (all-head (all-head (all-right O (y ∷ []) may))) in
                 let lt : x .stamp + 2 * p .UB < y .stamp = hx .1 in
                 let z : ⊥ = omega arith in
@@ -195,9 +195,9 @@ module _ (p : Property) (b : Bounds p) (M : Matcher) (𝓢 : Sets) (laws : SetLa
 
     -- a later cut
     next-cut : {behind ahead : List Line} {c : 𝓢 .Set} (h : Held (𝓢 .Set)) → In (h .line) → All In behind
-      → All (λ (z : Line). z .stamp ≤ h .line .stamp) behind → All (May p y) ahead
-      → Exact (O ++ y ∷ []) behind (h .line ∷ ahead) c → Exact O (behind ++ h .line ∷ []) ahead (h .after)
-      → Exact (O ++ y ∷ []) (behind ++ h .line ∷ []) ahead (swept-one p 𝓢 y c h)
+        → All (λ (z : Line). z .stamp ≤ h .line .stamp) behind → All (May p y) ahead
+        → Exact (O ++ y ∷ []) behind (h .line ∷ ahead) c → Exact O (behind ++ h .line ∷ []) ahead (h .after)
+        → Exact (O ++ y ∷ []) (behind ++ h .line ∷ []) ahead (swept-one p 𝓢 y c h)
     next-cut {behind} {ahead} {c} h ih hi low ha ec eh s = (there, back)
       where
         x : Line
@@ -207,7 +207,7 @@ module _ (p : Property) (b : Bounds p) (M : Matcher) (𝓢 : Sets) (laws : SetLa
         test = leb (x .stamp + 2 * p .LB) (y .stamp)
 
         direct : (t : Bool) → (T t → x .stamp + 2 * p .LB ≤ y .stamp) → laws .Member (cond t (𝓢 .move (h .after) y) (𝓢 .none)) s
-          → Way (O ++ y ∷ []) (behind ++ x ∷ []) ahead s
+            → Way (O ++ y ∷ []) (behind ++ x ∷ []) ahead s
         direct true k m =
             let r : ((r : M .State) × laws .Member (h .after) r × (M .step r y ≡ s)) = laws .member-move (h .after) y s .0 m in
             let kx : x .stamp + 2 * p .LB ≤ y .stamp = k tt in
@@ -241,10 +241,11 @@ module _ (p : Property) (b : Bounds p) (M : Matcher) (𝓢 : Sets) (laws : SetLa
             go (by-input front z r eb v m) =
                 let q : (behind ≡ front) × (x ≡ z) = same-end behind front x z eb in
                 inr
-                (laws .member-move c x s .1
-                ( r
-                , ec r .1 (subst (λ (l : List Line). Way (O ++ y ∷ []) l (x ∷ ahead) r) (sym (q .0)) (subst (λ (l : Line). Way (O ++ y ∷ []) front (l ∷ ahead) r) (sym (q .1)) v))
-                , ap (λ (l : Line). M .step r l) (q .1) ∙ m ))
+                (laws .member-move c x s .1 (
+                  r,
+                  ec r .1 (subst (λ (l : List Line). Way (O ++ y ∷ []) l (x ∷ ahead) r) (sym (q .0)) (subst (λ (l : Line). Way (O ++ y ∷ []) front (l ∷ ahead) r) (sym (q .1)) v)),
+                  ap (λ (l : Line). M .step r l) (q .1) ∙ m,
+                ))
 
     pub swept-lines : (d : 𝓢 .Set) (ks : List (Held (𝓢 .Set))) → lines (swept p 𝓢 y d ks) ≡ lines ks
     unfolding swept
@@ -252,8 +253,8 @@ module _ (p : Property) (b : Bounds p) (M : Matcher) (𝓢 : Sets) (laws : SetLa
     swept-lines d (k ∷ ks) = ap (λ (l : List Line). k .line ∷ l) (swept-lines (swept-one p 𝓢 y d k) ks)
 
     swept-right : {behind : List Line} {a c : 𝓢 .Set} {hs : List (Held (𝓢 .Set))} → All In behind → All In (lines hs) → (t : ℕ) → StampsFrom t (behind ++ lines hs)
-      → All (May p y) (lines hs) → Right O behind a hs → Exact (O ++ y ∷ []) behind (lines hs) c
-      → Right (O ++ y ∷ []) behind c (swept p 𝓢 y c hs)
+        → All (May p y) (lines hs) → Right O behind a hs → Exact (O ++ y ∷ []) behind (lines hs) c
+        → Right (O ++ y ∷ []) behind c (swept p 𝓢 y c hs)
     unfolding swept
     swept-right hi hh t f ha (last e) ec = last ec
     swept-right {behind} {a} {c} hi hh t f ha (cut {h = h} {hs = hs} e r) ec =
@@ -261,7 +262,7 @@ module _ (p : Property) (b : Bounds p) (M : Matcher) (𝓢 : Sets) (laws : SetLa
         let f′ : StampsFrom t ((behind ++ x ∷ []) ++ lines hs) = subst (StampsFrom t) (sym (snoc-append behind x (lines hs))) f in
         let low : All (λ (z : Line). z .stamp ≤ x .stamp) (behind ++ x ∷ []) = last-highest t behind x (from-left t (behind ++ x ∷ []) (lines hs) f′) in
         let n : Exact (O ++ y ∷ []) (behind ++ x ∷ []) (lines hs) (swept-one p 𝓢 y c h) =
-            next-cut h (all-head hh) hi (all-left behind (x ∷ []) low) (all-tail ha) ec (here r) in
+        next-cut h (all-head hh) hi (all-left behind (x ∷ []) low) (all-tail ha) ec (here r) in
         cut
         (subst (λ (l : List Line). Exact (O ++ y ∷ []) behind (x ∷ l) c) (sym (swept-lines (swept-one p 𝓢 y c h) hs)) ec)
         (swept-right (all-append hi (also (all-head hh) done)) (all-tail hh) t f′ (all-tail ha) r n)
@@ -277,16 +278,16 @@ module _ (p : Property) (b : Bounds p) (M : Matcher) (𝓢 : Sets) (laws : SetLa
 
     -- a cut that was there: one more input waits
     waits : {behind ahead : List Line} {a : 𝓢 .Set} → All (λ z. In z × (z .stamp ≤ x .stamp)) behind → All (λ z. In z × (z .stamp ≤ x .stamp)) ahead
-      → Exact O behind ahead a → Exact O behind (ahead ++ x ∷ []) a
+        → Exact O behind ahead a → Exact O behind (ahead ++ x ∷ []) a
     waits {behind} {ahead} {a} hb ha e s = (λ m. more (e s .0 m), λ w. e s .1 (less w))
       where
         more : Way O behind ahead s → Way O behind (ahead ++ x ∷ []) s
         more w =
-            record
-              { order = w .order
-              ; ins-are = w .ins-are
-              ; outs-are = w .outs-are
-              ; pairs =
+            record {
+              order = w .order;
+              ins-are = w .ins-are;
+              outs-are = w .outs-are;
+              pairs =
                   subst (Pairs p) (append-assoc (w .order) ahead (x ∷ []))
                   (pairs-append (w .pairs) (first done none)
                   (all-map (λ z h. also h done)
@@ -294,23 +295,23 @@ module _ (p : Property) (b : Bounds p) (M : Matcher) (𝓢 : Sets) (laws : SetLa
                   (all-channels (w .order)
                   (subst (All (λ z. May p z x)) (sym (w .ins-are)) (in-before hb))
                   (subst (All (λ z. May p z x)) (sym (w .outs-are)) out-before))
-                  (in-before ha))))
-              ; remembers = w .remembers
-              }
+                  (in-before ha))));
+              remembers = w .remembers;
+            }
 
         less : Way O behind (ahead ++ x ∷ []) s → Way O behind ahead s
         less w =
-            record
-              { order = w .order
-              ; ins-are = w .ins-are
-              ; outs-are = w .outs-are
-              ; pairs = pairs-left (w .order ++ ahead) (x ∷ []) (subst (Pairs p) (sym (append-assoc (w .order) ahead (x ∷ []))) (w .pairs))
-              ; remembers = w .remembers
-              }
+            record {
+              order = w .order;
+              ins-are = w .ins-are;
+              outs-are = w .outs-are;
+              pairs = pairs-left (w .order ++ ahead) (x ∷ []) (subst (Pairs p) (sym (append-assoc (w .order) ahead (x ∷ []))) (w .pairs));
+              remembers = w .remembers;
+            }
 
     -- the cut after it
     comes-last : {behind : List Line} {a : 𝓢 .Set} → All (λ z. In z × (z .stamp ≤ x .stamp)) behind
-      → Exact O behind [] a → Exact O (behind ++ x ∷ []) [] (𝓢 .move a x)
+        → Exact O behind [] a → Exact O (behind ++ x ∷ []) [] (𝓢 .move a x)
     comes-last {behind} {a} hb e s = (there, back)
       where
         there : laws .Member (𝓢 .move a x) s → Way O (behind ++ x ∷ []) [] s
@@ -328,16 +329,17 @@ module _ (p : Property) (b : Bounds p) (M : Matcher) (𝓢 : Sets) (laws : SetLa
                 pick : IsIn (z .action) ⊎ IsOut (z .action) → laws .Member (𝓢 .move a x) s
                 pick (inl h) =
                     let q : (ins v ≡ behind) × (z ≡ x) = same-end (ins v) behind z x (sym (ins-last-in v z h) ∙ ei) in
-                    laws .member-move a x s .1
-                    ( along M (M .begin) v
-                    , e (along M (M .begin) v) .1
-                      (record { order = v; ins-are = q .0; outs-are = sym (outs-last-in v z h) ∙ eo; pairs = pairs-remove p v [] z c; remembers = refl })
-                    , ap (λ (l : Line). M .step (along M (M .begin) v) l) (sym (q .1)) ∙ sym (along-last M (M .begin) v z) ∙ m )
+                    laws .member-move a x s .1 (
+                      along M (M .begin) v,
+                      e (along M (M .begin) v) .1
+                          (record { order = v; ins-are = q .0; outs-are = sym (outs-last-in v z h) ∙ eo; pairs = pairs-remove p v [] z c; remembers = refl }),
+                      ap (λ (l : Line). M .step (along M (M .begin) v) l) (sym (q .1)) ∙ sym (along-last M (M .begin) v z) ∙ m,
+                    )
                 pick (inr h) =
                     let hz : Out z × (z .stamp ≤ x .stamp) =
-                        all-head (all-right (outs v) (z ∷ []) (subst (All (λ z′. Out z′ × (z′ .stamp ≤ x .stamp))) (sym eo ∙ outs-last-out v z h) hO)) in
+                    all-head (all-right (outs v) (z ∷ []) (subst (All (λ z′. Out z′ × (z′ .stamp ≤ x .stamp))) (sym eo ∙ outs-last-out v z h) hO)) in
                     let may : All (λ z′. May p z′ z) (behind ++ x ∷ []) =
-                        subst (All (λ z′. May p z′ z)) (sym (ins-last-out v z h) ∙ ei) (all-ins (pairs-before p v [] z c)) in
+                    subst (All (λ z′. May p z′ z)) (sym (ins-last-out v z h) ∙ ei) (all-ins (pairs-before p v [] z c)) in
                     let le : x .stamp + 2 * p .LB ≤ z .stamp = in-out-asks p x z i h (all-head (all-right behind (x ∷ []) may)) in
                     let ge : z .stamp ≤ x .stamp = hz .1 in
                     let one : 1 ≤ p .LB = b .least in
@@ -350,8 +352,8 @@ module _ (p : Property) (b : Bounds p) (M : Matcher) (𝓢 : Sets) (laws : SetLa
     appended-lines a (h ∷ hs) = ap (λ (l : List Line). h .line ∷ l) (appended-lines (h .after) hs)
 
     appended-right : {behind : List Line} {a : 𝓢 .Set} {hs : List (Held (𝓢 .Set))}
-      → All (λ z. In z × (z .stamp ≤ x .stamp)) behind → All (λ z. In z × (z .stamp ≤ x .stamp)) (lines hs)
-      → Right O behind a hs → Right O behind a (appended p 𝓢 x a hs)
+        → All (λ z. In z × (z .stamp ≤ x .stamp)) behind → All (λ z. In z × (z .stamp ≤ x .stamp)) (lines hs)
+        → Right O behind a hs → Right O behind a (appended p 𝓢 x a hs)
     unfolding appended
     appended-right hb hh (last e) = cut (waits hb done e) (last (comes-last hb e))
     appended-right {behind} {a} hb hh (cut {h = h} {hs = hs} e r) =
@@ -369,7 +371,7 @@ module _ (p : Property) (b : Bounds p) (M : Matcher) (𝓢 : Sets) (laws : SetLa
     right : Right O (behind ++ gone) (f .before) (f .held)
 
   closing : {O behind : List Line} {a : 𝓢 .Set} {hs : List (Held (𝓢 .Set))} (T′ t : ℕ) → StampsFrom t (lines hs) → Right O behind a hs
-    → Closing O T′ behind hs (closed p 𝓢 T′ a hs)
+      → Closing O T′ behind hs (closed p 𝓢 T′ a hs)
   unfolding closed
   closing {O} {behind} {a} T′ t f (last e) =
       record { gone = []; split = refl; closed-now = done; open-still = done; right = subst (λ (l : List Line). Right O l a []) (sym (append-nil behind)) (last e) }
@@ -378,26 +380,26 @@ module _ (p : Property) (b : Bounds p) (M : Matcher) (𝓢 : Sets) (laws : SetLa
       (closing T′ (h .line .stamp) (f .1) r)
     where
       go : (c : Bool) → (T c → T′ ≤ h .line .stamp + 2 * p .UB) → (T (not c) → h .line .stamp + 2 * p .UB < T′)
-        → Closing O T′ (behind ++ h .line ∷ []) hs (closed p 𝓢 T′ (h .after) hs)
-        → Closing O T′ behind (h ∷ hs) (cond c (record { before = a; held = h ∷ hs }) (closed p 𝓢 T′ (h .after) hs))
+          → Closing O T′ (behind ++ h .line ∷ []) hs (closed p 𝓢 T′ (h .after) hs)
+          → Closing O T′ behind (h ∷ hs) (cond c (record { before = a; held = h ∷ hs }) (closed p 𝓢 T′ (h .after) hs))
       go true y n k =
           let yes′ : T′ ≤ h .line .stamp + 2 * p .UB = y tt in
-          record
-            { gone = []
-            ; split = refl
-            ; closed-now = done
-            ; open-still = also yes′ (all-map (λ z q. let q′ : h .line .stamp ≤ z .stamp = q in omega arith) (from-all (lines hs) (f .1)))
-            ; right = subst (λ (l : List Line). Right O l a (h ∷ hs)) (sym (append-nil behind)) (cut e r)
-            }
+          record {
+            gone = [];
+            split = refl;
+            closed-now = done;
+            open-still = also yes′ (all-map (λ z q. let q′ : h .line .stamp ≤ z .stamp = q in omega arith) (from-all (lines hs) (f .1)));
+            right = subst (λ (l : List Line). Right O l a (h ∷ hs)) (sym (append-nil behind)) (cut e r);
+          }
       go false y n k =
           let g : Front (𝓢 .Set) = closed p 𝓢 T′ (h .after) hs in
-          record
-            { gone = h .line ∷ k .gone
-            ; split = ap (λ (l : List Line). h .line ∷ l) (k .split)
-            ; closed-now = also (n tt) (k .closed-now)
-            ; open-still = k .open-still
-            ; right = subst (λ (l : List Line). Right O l (g .before) (g .held)) (snoc-append behind (h .line) (k .gone)) (k .right)
-            }
+          record {
+            gone = h .line ∷ k .gone;
+            split = ap (λ (l : List Line). h .line ∷ l) (k .split);
+            closed-now = also (n tt) (k .closed-now);
+            open-still = k .open-still;
+            right = subst (λ (l : List Line). Right O l (g .before) (g .held)) (snoc-append behind (h .line) (k .gone)) (k .right);
+          }
 
   -- ---- a front that fits a run
 
@@ -415,20 +417,21 @@ module _ (p : Property) (b : Bounds p) (M : Matcher) (𝓢 : Sets) (laws : SetLa
       record { behind = []; split = refl; closed-now = done; open-still = done; right = last exact; rising = tt; within = done }
     where
       exact : Exact [] [] [] (𝓢 .start)
-      exact s =
-          ( λ m. record
-              { order = []
-              ; ins-are = refl
-              ; outs-are = refl
-              ; pairs = none
-              ; remembers = along-none M (M .begin) ∙ sym (laws .member-start s .0 m)
-              }
-          , λ w. laws .member-start s .1
-              (sym (w .remembers) ∙ ap (along M (M .begin)) (empty-channels (w .order) (w .ins-are) (w .outs-are)) ∙ along-none M (M .begin)) )
+      exact s = (
+        λ m. record {
+          order = [];
+          ins-are = refl;
+          outs-are = refl;
+          pairs = none;
+          remembers = along-none M (M .begin) ∙ sym (laws .member-start s .0 m);
+        },
+        λ w. laws .member-start s .1
+            (sym (w .remembers) ∙ ap (along M (M .begin)) (empty-channels (w .order) (w .ins-are) (w .outs-are)) ∙ along-none M (M .begin)),
+      )
 
   -- stamps that never fall, one line longer
   from-longer : (t T′ : ℕ) (ls : List Line) (l : Line) → StampsFrom t ls → All (λ (z : Line). z .stamp ≤ T′) ls → t ≤ l .stamp → T′ ≤ l .stamp
-    → StampsFrom t (ls ++ l ∷ [])
+      → StampsFrom t (ls ++ l ∷ [])
   from-longer t T′ [] l f w h k = (h, tt)
   from-longer t T′ (x ∷ ls) l f (also q w) h k = (f .0, from-longer (x .stamp) T′ ls l (f .1) w (le-trans q k) k)
 
@@ -446,26 +449,26 @@ module _ (p : Property) (b : Bounds p) (M : Matcher) (𝓢 : Sets) (laws : SetLa
         let g : Front (𝓢 .Set) = closed p 𝓢 t (f .before) (f .held) in
         let c : Closing (outs run) t (fit .behind) (f .held) g = closed-at x h in
         let ei : ins run ≡ (fit .behind ++ c .gone) ++ lines (g .held) =
-            fit .split ∙ ap (λ (l : List Line). fit .behind ++ l) (c .split) ∙ sym (append-assoc (fit .behind) (c .gone) (lines (g .held))) in
+        fit .split ∙ ap (λ (l : List Line). fit .behind ++ l) (c .split) ∙ sym (append-assoc (fit .behind) (c .gone) (lines (g .held))) in
         let low : All (λ z. In z × (z .stamp ≤ t)) ((fit .behind ++ c .gone) ++ lines (g .held)) =
-            subst (All (λ z. In z × (z .stamp ≤ t))) ei
-            (all-both (ins-in run) (all-map (λ z q. le-trans q h) (all-ins (fit .within)))) in
+        subst (All (λ z. In z × (z .stamp ≤ t))) ei
+        (all-both (ins-in run) (all-map (λ z q. le-trans q h) (all-ins (fit .within)))) in
         let el : lines (appended p 𝓢 x (g .before) (g .held)) ≡ lines (g .held) ++ x ∷ [] = appended-lines (outs run) x tt outs-low (g .before) (g .held) in
-        record
-          { behind = fit .behind ++ c .gone
-          ; split =
+        record {
+          behind = fit .behind ++ c .gone;
+          split =
               ins-last-in run x tt ∙ ap (λ (l : List Line). l ++ x ∷ []) ei
               ∙ append-assoc (fit .behind ++ c .gone) (lines (g .held)) (x ∷ [])
-              ∙ ap (λ (l : List Line). (fit .behind ++ c .gone) ++ l) (sym el)
-          ; closed-now = all-append (all-map (λ z q. let q′ : z .stamp + 2 * p .UB < T₀ = q in omega arith) (fit .closed-now)) (c .closed-now)
-          ; open-still = subst (All (λ (z : Line). t ≤ z .stamp + 2 * p .UB)) (sym el) (all-append (c .open-still) (also {x = x} (omega arith) done))
-          ; right =
+              ∙ ap (λ (l : List Line). (fit .behind ++ c .gone) ++ l) (sym el);
+          closed-now = all-append (all-map (λ z q. let q′ : z .stamp + 2 * p .UB < T₀ = q in omega arith) (fit .closed-now)) (c .closed-now);
+          open-still = subst (All (λ (z : Line). t ≤ z .stamp + 2 * p .UB)) (sym el) (all-append (c .open-still) (also {x = x} (omega arith) done));
+          right =
               subst (λ (l : List Line). Right l (fit .behind ++ c .gone) (g .before) (appended p 𝓢 x (g .before) (g .held))) (sym (outs-last-in run x tt))
               (appended-right (outs run) x tt outs-low
-              (all-left (fit .behind ++ c .gone) (lines (g .held)) low) (all-right (fit .behind ++ c .gone) (lines (g .held)) low) (c .right))
-          ; rising = from-longer 0 T₀ run x (fit .rising) (fit .within) (omega arith) h
-          ; within = all-append (all-map (λ z q. le-trans q h) (fit .within)) (also (le-refl t) done)
-          }
+              (all-left (fit .behind ++ c .gone) (lines (g .held)) low) (all-right (fit .behind ++ c .gone) (lines (g .held)) low) (c .right));
+          rising = from-longer 0 T₀ run x (fit .rising) (fit .within) (omega arith) h;
+          within = all-append (all-map (λ z q. le-trans q h) (fit .within)) (also (le-refl t) done);
+        }
       where
         outs-low : All (λ (z : Line). Out z × (z .stamp ≤ t)) (outs run)
         outs-low = all-both (outs-out run) (all-map (λ z q. le-trans q h) (all-outs (fit .within)))
@@ -474,27 +477,27 @@ module _ (p : Property) (b : Bounds p) (M : Matcher) (𝓢 : Sets) (laws : SetLa
         let g : Front (𝓢 .Set) = closed p 𝓢 t (f .before) (f .held) in
         let c : Closing (outs run) t (fit .behind) (f .held) g = closed-at y h in
         let ei : ins run ≡ (fit .behind ++ c .gone) ++ lines (g .held) =
-            fit .split ∙ ap (λ (l : List Line). fit .behind ++ l) (c .split) ∙ sym (append-assoc (fit .behind) (c .gone) (lines (g .held))) in
+        fit .split ∙ ap (λ (l : List Line). fit .behind ++ l) (c .split) ∙ sym (append-assoc (fit .behind) (c .gone) (lines (g .held))) in
         let inputs : All In ((fit .behind ++ c .gone) ++ lines (g .held)) = subst (All In) ei (ins-in run) in
         let hb : All In (fit .behind ++ c .gone) = all-left (fit .behind ++ c .gone) (lines (g .held)) inputs in
         let hh : All In (lines (g .held)) = all-right (fit .behind ++ c .gone) (lines (g .held)) inputs in
         let gone : All (λ (z : Line). z .stamp + 2 * p .UB < t) (fit .behind ++ c .gone) =
-            all-append (all-map (λ z q. let q′ : z .stamp + 2 * p .UB < T₀ = q in omega arith) (fit .closed-now)) (c .closed-now) in
+        all-append (all-map (λ z q. let q′ : z .stamp + 2 * p .UB < T₀ = q in omega arith) (fit .closed-now)) (c .closed-now) in
         let ahead : All (May p y) (lines (g .held)) = all-map (λ z q. out-in p y z tt (q .0) (q .1)) (all-both hh (c .open-still)) in
         let el : lines (swept p 𝓢 y (𝓢 .move (g .before) y) (g .held)) ≡ lines (g .held) =
-            swept-lines (outs run) y tt outs-before (𝓢 .move (g .before) y) (g .held) in
-        record
-          { behind = fit .behind ++ c .gone
-          ; split = ins-last-out run y tt ∙ ei ∙ ap (λ (l : List Line). (fit .behind ++ c .gone) ++ l) (sym el)
-          ; closed-now = gone
-          ; open-still = subst (All (λ (z : Line). t ≤ z .stamp + 2 * p .UB)) (sym el) (c .open-still)
-          ; right =
+        swept-lines (outs run) y tt outs-before (𝓢 .move (g .before) y) (g .held) in
+        record {
+          behind = fit .behind ++ c .gone;
+          split = ins-last-out run y tt ∙ ei ∙ ap (λ (l : List Line). (fit .behind ++ c .gone) ++ l) (sym el);
+          closed-now = gone;
+          open-still = subst (All (λ (z : Line). t ≤ z .stamp + 2 * p .UB)) (sym el) (c .open-still);
+          right =
               subst (λ (l : List Line). Right l (fit .behind ++ c .gone) (𝓢 .move (g .before) y) (swept p 𝓢 y (𝓢 .move (g .before) y) (g .held))) (sym (outs-last-out run y tt))
               (swept-right (outs run) y tt outs-before hb hh 0 (subst (StampsFrom 0) ei (from-ins 0 run (fit .rising))) ahead (c .right)
-              (first-cut (outs run) y tt outs-before hb gone ahead (here (c .right))))
-          ; rising = from-longer 0 T₀ run y (fit .rising) (fit .within) (omega arith) h
-          ; within = all-append (all-map (λ z q. le-trans q h) (fit .within)) (also (le-refl t) done)
-          }
+              (first-cut (outs run) y tt outs-before hb gone ahead (here (c .right))));
+          rising = from-longer 0 T₀ run y (fit .rising) (fit .within) (omega arith) h;
+          within = all-append (all-map (λ z q. le-trans q h) (fit .within)) (also (le-refl t) done);
+        }
       where
         outs-before : All (λ z. May p z (record { action = Action.output k; stamp = t })) (outs run)
         outs-before =
@@ -510,7 +513,7 @@ module _ (p : Property) (b : Bounds p) (M : Matcher) (𝓢 : Sets) (laws : SetLa
   count-closed t (also {x} {xs} h r) v = go (is-open p t x) (leb→le t (x .stamp + 2 * p .UB)) (count-closed t r v)
     where
       go : (c : Bool) → (T c → t ≤ x .stamp + 2 * p .UB) → count-open p t (xs ++ v) ≡ count-open p t v
-        → cond c (suc (count-open p t (xs ++ v))) (count-open p t (xs ++ v)) ≡ count-open p t v
+          → cond c (suc (count-open p t (xs ++ v))) (count-open p t (xs ++ v)) ≡ count-open p t v
       go true k e = let k′ : t ≤ x .stamp + 2 * p .UB = k tt in let z : ⊥ = omega arith in absurd z
       go false k e = e
 
@@ -519,7 +522,7 @@ module _ (p : Property) (b : Bounds p) (M : Matcher) (𝓢 : Sets) (laws : SetLa
   count-held t (k ∷ hs) (also h r) = go (is-open p t (k .line)) (nleb→lt t (k .line .stamp + 2 * p .UB)) (count-held t hs r)
     where
       go : (c : Bool) → (T (not c) → k .line .stamp + 2 * p .UB < t) → count-open p t (lines hs) ≡ length hs
-        → cond c (suc (count-open p t (lines hs))) (count-open p t (lines hs)) ≡ suc (length hs)
+          → cond c (suc (count-open p t (lines hs))) (count-open p t (lines hs)) ≡ suc (length hs)
       go true n e = ap suc e
       go false n e = let n′ : k .line .stamp + 2 * p .UB < t = n tt in let z : ⊥ = omega arith in absurd z
 
@@ -530,16 +533,16 @@ module _ (p : Property) (b : Bounds p) (M : Matcher) (𝓢 : Sets) (laws : SetLa
   -- ---- the verdict
 
   module _ (Breach : List Line → Type 0) (run : Run)
-    (reads : (order : List Line) → (M .is-broken (along M (M .begin) order) ≡ true) ↔ Breach order) where
+      (reads : (order : List Line) → (M .is-broken (along M (M .begin) order) ≡ true) ↔ Breach order) where
     explains-way : (order : List Line) → Explanation p run order → Way (outs run) (ins run) [] (along M (M .begin) order)
     explains-way order e =
-        record
-          { order = order
-          ; ins-are = e .is-order .inputs-kept
-          ; outs-are = e .is-order .outputs-kept
-          ; pairs = subst (Pairs p) (sym (append-nil order)) (explains-pairs p b e)
-          ; remembers = refl
-          }
+        record {
+          order = order;
+          ins-are = e .is-order .inputs-kept;
+          outs-are = e .is-order .outputs-kept;
+          pairs = subst (Pairs p) (sym (append-nil order)) (explains-pairs p b e);
+          remembers = refl;
+        }
 
     way-explains : {s : M .State} (w : Way (outs run) (ins run) [] s) → Explanation p run (w .order)
     way-explains w =
@@ -551,32 +554,31 @@ module _ (p : Property) (b : Bounds p) (M : Matcher) (𝓢 : Sets) (laws : SetLa
     verdict-exact : (a : 𝓢 .Set) → Exact (outs run) (ins run) [] a → VerdictFor Breach p run (verdict-of p 𝓢 (𝓢 .some-broken a) (𝓢 .some-unbroken a))
     verdict-exact a e = go (𝓢 .some-broken a) (𝓢 .some-unbroken a) (laws .some-broken a) (laws .some-unbroken a)
       where
-
         breaking : ((s : M .State) × laws .Member a s × (M .is-broken s ≡ true)) → Some p run Breach
         breaking q =
             let w : Way (outs run) (ins run) [] (q .0) = e (q .0) .0 (q .1) in
-            record
-              { order = w .order
-              ; explains = way-explains w
-              ; holds = reads (w .order) .0 (ap (M .is-broken) (w .remembers) ∙ q .2)
-              }
+            record {
+              order = w .order;
+              explains = way-explains w;
+              holds = reads (w .order) .0 (ap (M .is-broken) (w .remembers) ∙ q .2);
+            }
 
         sparing : ((s : M .State) × laws .Member a s × (M .is-broken s ≡ false)) → Some p run (λ order. ¬ Breach order)
         sparing q =
             let w : Way (outs run) (ins run) [] (q .0) = e (q .0) .0 (q .1) in
-            record
-              { order = w .order
-              ; explains = way-explains w
-              ; holds = unbroken (w .order) (ap (M .is-broken) (w .remembers) ∙ q .2)
-              }
+            record {
+              order = w .order;
+              explains = way-explains w;
+              holds = unbroken (w .order) (ap (M .is-broken) (w .remembers) ∙ q .2);
+            }
 
         go : (x y : Bool)
-          → (x ≡ true) ↔ ((s : M .State) × laws .Member a s × (M .is-broken s ≡ true))
-          → (y ≡ true) ↔ ((s : M .State) × laws .Member a s × (M .is-broken s ≡ false))
-          → VerdictFor Breach p run (verdict-of p 𝓢 x y)
+            → (x ≡ true) ↔ ((s : M .State) × laws .Member a s × (M .is-broken s ≡ true))
+            → (y ≡ true) ↔ ((s : M .State) × laws .Member a s × (M .is-broken s ≡ false))
+            → VerdictFor Breach p run (verdict-of p 𝓢 x y)
         go false y hx hy =
             λ order ex br.
-              true≢false (sym (hx .1 (along M (M .begin) order, e (along M (M .begin) order) .1 (explains-way order ex), reads order .1 br)))
+            true≢false (sym (hx .1 (along M (M .begin) order, e (along M (M .begin) order) .1 (explains-way order ex), reads order .1 br)))
         go true true hx hy = (breaking (hx .0 refl), sparing (hy .0 refl))
         go true false hx hy = λ order ex. pick order ex (M .is-broken (along M (M .begin) order)) refl
           where

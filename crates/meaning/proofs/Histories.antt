@@ -46,7 +46,7 @@ module _ (p : Property) where
   watched-append w [] c = refl
   watched-append w (k ∷ a) c = watched-append (next p w k) a c
 
-  taken-append : (w : Watch) (a c : List Call) → AllTaken p w (a ++ c) → AllTaken p w a × AllTaken p (watched p w a) c
+  pub taken-append : (w : Watch) (a c : List Call) → AllTaken p w (a ++ c) → AllTaken p w a × AllTaken p (watched p w a) c
   unfolding watched AllTaken
   taken-append w [] c h = (tt, h)
   taken-append w (k ∷ a) c h =
@@ -57,7 +57,7 @@ module _ (p : Property) where
   taken-latest w (Call.line l) = go (w .is-blind) (beyond p (w .latest) (l .stamp))
     where
       go : (x y : Bool)
-        → (cond x
+          → (cond x
           (cond y (record { is-blind = false; run = l ∷ []; latest = l .stamp }) (record { is-blind = true; run = []; latest = l .stamp }))
           (open-watch (w .run ++ l ∷ []) (l .stamp))) .latest ≡ l .stamp
       go true true = refl
@@ -85,7 +85,7 @@ module _ (p : Property) where
       let late : t ≤ l .stamp = not-refused-late (blind-watch t) (Call.line l) (h .0) in
       let e : max t (l .stamp) ≡ l .stamp = omega arith in
       let skipped : with-line p (blind-watch t) l ≡ blind-watch (l .stamp) =
-          ap (λ (x : Bool). cond x (open-watch (l ∷ []) (l .stamp)) (blind-watch (l .stamp))) (ge-ltb (q .0)) in
+      ap (λ (x : Bool). cond x (open-watch (l ∷ []) (l .stamp)) (blind-watch (l .stamp))) (ge-ltb (q .0)) in
       ap (λ (x : Watch). watched p x ks .is-blind) (not-refused-next (blind-watch t) (Call.line l) (h .0) ∙ skipped)
       ∙ stays-blind (l .stamp) ks (subst (λ (x : Watch). AllTaken p x ks) skipped (h .1)) (subst (λ (x : ℕ). Quiet p x ks) e (q .1))
   stays-blind t (Call.mark g ∷ ks) h q =
@@ -95,7 +95,7 @@ module _ (p : Property) where
       ∙ stays-blind g ks (h .1) (subst (λ (x : ℕ). Quiet p x ks) e q)
 
   pub blind-until : (before between : List Call) (g : ℕ) → AllTaken p fresh (before ++ Call.mark g ∷ between)
-    → Quiet p (highest 0 (before ++ Call.mark g ∷ [])) between → watched p fresh (before ++ Call.mark g ∷ between) .is-blind ≡ true
+      → Quiet p (highest 0 (before ++ Call.mark g ∷ [])) between → watched p fresh (before ++ Call.mark g ∷ between) .is-blind ≡ true
   unfolding watched AllTaken
   blind-until before between g h q =
       let r : AllTaken p fresh before × AllTaken p (watched p fresh before) (Call.mark g ∷ between) = taken-append fresh before (Call.mark g ∷ between) h in
@@ -120,16 +120,17 @@ module _ (p : Property) where
 
   -- a run goes on to the next mark
   runs-on : (run : Run) (t : ℕ) (ks : List Call) → AllTaken p (open-watch run t) ks → NoMark ks
-    → (t′ : ℕ) × (watched p (open-watch run t) ks ≡ open-watch (run ++ call-lines ks) t′)
+      → (t′ : ℕ) × (watched p (open-watch run t) ks ≡ open-watch (run ++ call-lines ks) t′)
   unfolding watched AllTaken NoMark call-lines
   runs-on run t [] h n = (t, ap (λ (r : Run). open-watch r t) (sym (append-nil run)))
   runs-on run t (Call.line l ∷ ks) h n =
       let r : ((t′ : ℕ) × (watched p (open-watch (run ++ l ∷ []) (l .stamp)) ks ≡ open-watch ((run ++ l ∷ []) ++ call-lines ks) t′)) =
-          runs-on (run ++ l ∷ []) (l .stamp) ks (h .1) n in
-      ( r .0
-      , ap (λ (x : Watch). watched p x ks) (not-refused-next (open-watch run t) (Call.line l) (h .0))
-        ∙ r .1
-        ∙ ap (λ (x : Run). open-watch x (r .0)) (append-assoc run (l ∷ []) (call-lines ks)) )
+      runs-on (run ++ l ∷ []) (l .stamp) ks (h .1) n in (
+        r .0,
+        ap (λ (x : Watch). watched p x ks) (not-refused-next (open-watch run t) (Call.line l) (h .0))
+            ∙ r .1
+            ∙ ap (λ (x : Run). open-watch x (r .0)) (append-assoc run (l ∷ []) (call-lines ks)),
+      )
   runs-on run t (Call.mark g ∷ ks) h n = absurd n
 
 -- ---- events
@@ -191,7 +192,7 @@ lost-below t l (Event.mark g ∷ a) x c m =
     upper s u = omega arith
 
 all-below : (t : ℕ) (a : List Event) (x : Line) (c : List Event) → LostMarked (a ++ Event.line x ∷ c)
-  → All (λ (z : Line). z .stamp ≤ highest t (fed a)) (all-lines a)
+    → All (λ (z : Line). z .stamp ≤ highest t (fed a)) (all-lines a)
 unfolding LostMarked fed all-lines highest
 all-below t [] x c m = done
 all-below t (Event.line l ∷ a) x c m = also (le-trans (upper t (l .stamp)) (highest-above (max t (l .stamp)) (fed a))) (all-below (max t (l .stamp)) a x c m)
@@ -204,36 +205,37 @@ all-below t (Event.mark g ∷ a) x c m = all-below (max t g) a x c m
 -- ---- demand 3's verdict
 
 module _ (p : Property) (b : Bounds p) (earlier later : List Event) (x : Line) (premises : Premises (earlier ++ Event.line x ∷ later))
-  (takes : AllTaken p fresh (fed (earlier ++ Event.line x ∷ later))) (was-blind : watched p fresh (fed earlier) .is-blind ≡ true)
-  (boundary : highest 0 (fed earlier) + 2 * p .UB < x .stamp) (no-mark : NoMark (fed later)) where
+    (takes : AllTaken p fresh (fed (earlier ++ Event.line x ∷ later))) (was-blind : watched p fresh (fed earlier) .is-blind ≡ true)
+    (boundary : highest 0 (fed earlier) + 2 * p .UB < x .stamp) (no-mark : NoMark (fed later)) where
   run-then : (t : ℕ) × (watched p fresh (fed (earlier ++ Event.line x ∷ later)) ≡ open-watch (x ∷ all-lines later) t)
   unfolding watched AllTaken fed
   run-then =
       let w : Watch = watched p fresh (fed earlier) in
       let e : fed (earlier ++ Event.line x ∷ later) ≡ fed earlier ++ Call.line x ∷ fed later = fed-append earlier (Event.line x ∷ later) in
       let h : AllTaken p fresh (fed earlier) × AllTaken p w (Call.line x ∷ fed later) =
-          taken-append p fresh (fed earlier) (Call.line x ∷ fed later) (subst (AllTaken p fresh) e takes) in
+      taken-append p fresh (fed earlier) (Call.line x ∷ fed later) (subst (AllTaken p fresh) e takes) in
       let top : w .latest ≡ highest 0 (fed earlier) = latest-highest p fresh (fed earlier) (h .0) in
       let far : beyond p (w .latest) (x .stamp) ≡ true = lt-ltb (subst (λ (t : ℕ). t + 2 * p .UB < x .stamp) (sym top) boundary) in
       let begins : taken p w (Call.line x) ≡ open-watch (x ∷ []) (x .stamp) =
-          ap (λ (t : Bool). cond t (cond (beyond p (w .latest) (x .stamp)) (open-watch (x ∷ []) (x .stamp)) (blind-watch (x .stamp))) (open-watch (w .run ++ x ∷ []) (x .stamp))) was-blind
-          ∙ ap (λ (t : Bool). cond t (open-watch (x ∷ []) (x .stamp)) (blind-watch (x .stamp))) far in
+      ap (λ (t : Bool). cond t (cond (beyond p (w .latest) (x .stamp)) (open-watch (x ∷ []) (x .stamp)) (blind-watch (x .stamp))) (open-watch (w .run ++ x ∷ []) (x .stamp))) was-blind
+      ∙ ap (λ (t : Bool). cond t (open-watch (x ∷ []) (x .stamp)) (blind-watch (x .stamp))) far in
       let r : ((t : ℕ) × (watched p (open-watch (x ∷ []) (x .stamp)) (fed later) ≡ open-watch (x ∷ call-lines (fed later)) t)) =
-          runs-on p (x ∷ []) (x .stamp) (fed later) (subst (λ (v : Watch). AllTaken p v (fed later)) begins (h .1 .1)) no-mark in
+      runs-on p (x ∷ []) (x .stamp) (fed later) (subst (λ (v : Watch). AllTaken p v (fed later)) begins (h .1 .1)) no-mark in
       let lost-none : all-lines later ≡ call-lines (fed later) =
-          none-lost later (line-marked (marked-append earlier (Event.line x ∷ later) (premises .lost-marked))) no-mark in
-      ( r .0
-      , ap (watched p fresh) e
-        ∙ watched-append p fresh (fed earlier) (Call.line x ∷ fed later)
-        ∙ ap (λ (v : Watch). watched p v (fed later)) (not-refused-next p w (Call.line x) (h .1 .0) ∙ begins)
-        ∙ r .1
-        ∙ ap (λ (z : List Line). open-watch (x ∷ z) (r .0)) (sym lost-none) )
+      none-lost later (line-marked (marked-append earlier (Event.line x ∷ later) (premises .lost-marked))) no-mark in (
+        r .0,
+        ap (watched p fresh) e
+            ∙ watched-append p fresh (fed earlier) (Call.line x ∷ fed later)
+            ∙ ap (λ (v : Watch). watched p v (fed later)) (not-refused-next p w (Call.line x) (h .1 .0) ∙ begins)
+            ∙ r .1
+            ∙ ap (λ (z : List Line). open-watch (x ∷ z) (r .0)) (sym lost-none),
+      )
     where
       line-marked : LostMarked (Event.line x ∷ later) → LostMarked later
       line-marked m = unfold LostMarked in m
 
   pub history-verdict : (v : Verdict) → Standing p (watched p fresh (fed (earlier ++ Event.line x ∷ later))) v
-    → VerdictFor (BreaksAfter p (all-lines earlier)) p (all-lines (earlier ++ Event.line x ∷ later)) v
+      → VerdictFor (BreaksAfter p (all-lines earlier)) p (all-lines (earlier ++ Event.line x ∷ later)) v
   unfolding all-lines
   history-verdict v s =
       let e : all-lines (earlier ++ Event.line x ∷ later) ≡ all-lines earlier ++ x ∷ all-lines later = lines-append earlier (Event.line x ∷ later) in
@@ -255,7 +257,7 @@ module _ (p : Property) where
   kept-same w (k ∷ ks) = go (refusal p w k) refl (kept-same (next p w k) ks)
     where
       go : (n : ℕ) → refusal p w k ≡ n → watched p (next p w k) (kept p (next p w k) ks) ≡ watched p (next p w k) ks
-        → watched p w (unless-refused n (k ∷ kept p (next p w k) ks) (kept p (next p w k) ks)) ≡ watched p (next p w k) ks
+          → watched p w (unless-refused n (k ∷ kept p (next p w k) ks) (kept p (next p w k) ks)) ≡ watched p (next p w k) ks
       go zero e ih = ih
       go (suc n) e ih =
           let same : next p w k ≡ w = ap (λ (i : ℕ). unless-refused i (taken p w k) w) e in
@@ -267,7 +269,7 @@ module _ (p : Property) where
   kept-taken w (k ∷ ks) = go (refusal p w k) refl (kept-taken (next p w k) ks)
     where
       go : (n : ℕ) → refusal p w k ≡ n → AllTaken p (next p w k) (kept p (next p w k) ks)
-        → AllTaken p w (unless-refused n (k ∷ kept p (next p w k) ks) (kept p (next p w k) ks))
+          → AllTaken p w (unless-refused n (k ∷ kept p (next p w k) ks) (kept p (next p w k) ks))
       go zero e ih = (e, subst (λ (x : Watch). AllTaken p x (kept p (next p w k) ks)) (not-refused-next p w k e) ih)
       go (suc n) e ih =
           subst (λ (x : Watch). AllTaken p x (kept p (next p w k) ks)) (ap (λ (i : ℕ). unless-refused i (taken p w k) w) e) ih

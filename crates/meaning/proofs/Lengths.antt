@@ -60,15 +60,15 @@ module _ (p : Property) where
 
   pub length-laws : SetLaws (state-matcher p) (lengths p)
   length-laws =
-      record
-        { Member = Member
-        ; member-start = start
-        ; member-none = none
-        ; member-join = join
-        ; member-move = move
-        ; some-broken = broken
-        ; some-unbroken = unbroken
-        }
+      record {
+        Member = Member;
+        member-start = start;
+        member-none = none;
+        member-join = join;
+        member-move = move;
+        some-broken = broken;
+        some-unbroken = unbroken;
+      }
     where
       start : (q : State) → Member at-start q ↔ (q ≡ State.matched 0)
       start (State.matched k) = (λ m. ap State.matched (eqb-eq (m .1)), λ e. let z : k ≡ 0 = cc in (omega arith, eq-eqb {m = k} {n = 0} z))
@@ -80,7 +80,7 @@ module _ (p : Property) where
 
       join : (a b : Lengths) (q : State) → Member (either a b) q ↔ (Member a q ⊎ Member b q)
       join a b (State.matched k) =
-          ( λ m. there (m .0) (or-cases (a .at k) (b .at k) (m .1)) , back )
+          (λ m. there (m .0) (or-cases (a .at k) (b .at k) (m .1)), back)
         where
           there : k ≤ length (p .sequence) → (a .at k ≡ true) ⊎ (b .at k ≡ true) → Member a (State.matched k) ⊎ Member b (State.matched k)
           there h (inl e) = inl (h, e)
@@ -111,9 +111,10 @@ module _ (p : Property) where
           back t = from (t .0) (t .1) (t .2)
             where
               from : (r : State) → Member a r → state-next p r l ≡ State.matched j → Member (moved p a l) (State.matched j)
-              from (State.matched k) m e =
-                  ( next-le k j l e
-                  , some-to-here (length (p .sequence)) f k (m .0) (and-true (m .1) (eq-is-matched j (state-next p (State.matched k) l) e)) )
+              from (State.matched k) m e = (
+                next-le k j l e,
+                some-to-here (length (p .sequence)) f k (m .0) (and-true (m .1) (eq-is-matched j (state-next p (State.matched k) l) e)),
+              )
               from State.broken m e = absurd (matched-not-broken j (sym e))
       move a l State.broken = (there, back)
         where

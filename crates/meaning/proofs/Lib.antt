@@ -11,3 +11,4 @@ pub mod Lengths
 pub mod Calls
 pub mod Boundary
 pub mod Histories
+pub mod Cases

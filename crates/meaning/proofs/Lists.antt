@@ -112,7 +112,7 @@ all-outs done = done
 all-outs (also {x} h r) = keep-out x (x .action) h (all-outs r)
 
 kept : {P : Line → Type 0} (a : Action) (l : Line) (i o : List Line) → All P (keep-input a l i) → All P (keep-output a l o)
-  → P l × All P i × All P o
+    → P l × All P i × All P o
 kept (Action.input j) l i o (also h r) k = (h, r, k)
 kept (Action.output j) l i o h (also k r) = (k, h, r)
 

@@ -101,8 +101,8 @@ module _ (s : ℕ → Action) where
     above (suc j) h k = pick (leb (longest s n r) j) (leb→le _ _) (nleb→lt _ _) (λ l. above j l (omega arith))
       where
         pick : (c : Bool) → (T c → longest s n r ≤ j) → (T (not c) → j < longest s n r)
-          → (longest s n r ≤ j → longest s (suc j) (a ∷ r) ≡ longest s (suc (longest s n r)) (a ∷ r))
-          → cond (same (s (suc j)) a && ended s (suc j) r) (suc (suc j)) (longest s (suc j) (a ∷ r)) ≡ longest s (suc (longest s n r)) (a ∷ r)
+            → (longest s n r ≤ j → longest s (suc j) (a ∷ r) ≡ longest s (suc (longest s n r)) (a ∷ r))
+            → cond (same (s (suc j)) a && ended s (suc j) r) (suc (suc j)) (longest s (suc j) (a ∷ r)) ≡ longest s (suc (longest s n r)) (a ∷ r)
         pick true y z ih =
             let l : longest s n r ≤ j = y tt in
             ap (λ (t : Bool). cond t (suc (suc j)) (longest s (suc j) (a ∷ r)))
@@ -127,7 +127,7 @@ module _ (s : ℕ → Action) where
   longest-next (suc n) r a = pick (leb (longest s (suc n) r) n) (leb→le _ _) (nleb→lt _ _)
     where
       pick : (c : Bool) → (T c → longest s (suc n) r ≤ n) → (T (not c) → n < longest s (suc n) r)
-        → longest s (suc n) (a ∷ r) ≡ fall-back s (suc n) (longest s (suc n) r) a (longest s (suc n) r)
+          → longest s (suc n) (a ∷ r) ≡ fall-back s (suc n) (longest s (suc n) r) a (longest s (suc n) r)
       pick true y z =
           let h : longest s (suc n) r ≤ n = y tt in
           above (suc n) r a n h (omega arith) ∙ search (suc n) r a (longest s (suc n) r) (omega arith) (omega arith)
@@ -223,36 +223,36 @@ module _ (p : Property) where
 
   breaks-later : {r : List Action} {w : List Action} (a : Action) → BreaksOn (a ∷ r) w → BreaksOn r (a ∷ w)
   breaks-later a h =
-      record
-        { before = a ∷ h .before
-        ; answer = h .answer
-        ; after = h .after
-        ; occurs = ap (λ (l : List Action). a ∷ l) (h .occurs)
-        ; matched = h .matched
-        ; outside = h .outside
-        }
+      record {
+        before = a ∷ h .before;
+        answer = h .answer;
+        after = h .after;
+        occurs = ap (λ (l : List Action). a ∷ l) (h .occurs);
+        matched = h .matched;
+        outside = h .outside;
+      }
 
   -- the first of these actions breaks, or later ones do
   breaks-cases : (r : List Action) (a : Action) (w : List Action) → BreaksOn r (a ∷ w)
-    → ((ended s n r ≡ true) × (outside p a ≡ true)) ⊎ BreaksOn (a ∷ r) w
+      → ((ended s n r ≡ true) × (outside p a ≡ true)) ⊎ BreaksOn (a ∷ r) w
   breaks-cases r a w h = go (h .before) (h .occurs) (h .matched)
     where
       go : (b : List Action) → a ∷ w ≡ b ++ Action.output (h .answer) ∷ h .after → ended s n (reverseAux b r) ≡ true
-        → ((ended s n r ≡ true) × (outside p a ≡ true)) ⊎ BreaksOn (a ∷ r) w
+          → ((ended s n r ≡ true) × (outside p a ≡ true)) ⊎ BreaksOn (a ∷ r) w
       go [] e m = inl (m, ap (outside p) (head-eq-of-cons-eq e) ∙ output-outside (h .answer) (h .outside))
       go (c ∷ b) e m =
           inr
-          (record
-            { before = b
-            ; answer = h .answer
-            ; after = h .after
-            ; occurs = tail-eq-of-cons-eq e
-            ; matched = subst (λ (x : Action). ended s n (reverseAux b (x ∷ r)) ≡ true) (sym (head-eq-of-cons-eq e)) m
-            ; outside = h .outside
-            })
+          (record {
+            before = b;
+            answer = h .answer;
+            after = h .after;
+            occurs = tail-eq-of-cons-eq e;
+            matched = subst (λ (x : Action). ended s n (reverseAux b (x ∷ r)) ≡ true) (sym (head-eq-of-cons-eq e)) m;
+            outside = h .outside;
+          })
 
   follow : (r : List Action) (w : List Line)
-    → (is-broken (along (state-matcher p) (State.matched (longest s n r)) w) ≡ true) ↔ BreaksOn r (actions w)
+      → (is-broken (along (state-matcher p) (State.matched (longest s n r)) w) ≡ true) ↔ BreaksOn r (actions w)
   unfolding along
   follow r [] = (λ e. absurd (true≢false (sym e)), λ h. absurd (none-left (h .before) (Action.output (h .answer)) (h .after) (h .occurs)))
     where
@@ -268,24 +268,26 @@ module _ (p : Property) where
       Broken q = is-broken (along (state-matcher p) q w) ≡ true
 
       go : (t : Bool) → eqb (longest s n r) n && outside p (l .action) ≡ t
-        → (is-broken (along (state-matcher p) (State.matched (longest s n (l .action ∷ r))) w) ≡ true) ↔ BreaksOn (l .action ∷ r) (actions w)
-        → (is-broken (along (state-matcher p) (cond t State.broken (State.matched (matched-next (p .sequence) (longest s n r) (l .action)))) w) ≡ true)
+          → (is-broken (along (state-matcher p) (State.matched (longest s n (l .action ∷ r))) w) ≡ true) ↔ BreaksOn (l .action ∷ r) (actions w)
+          → (is-broken (along (state-matcher p) (cond t State.broken (State.matched (matched-next (p .sequence) (longest s n r) (l .action)))) w) ≡ true)
           ↔ BreaksOn r (l .action ∷ actions w)
       go true e ih =
           let q : (eqb (longest s n r) n ≡ true) × (outside p (l .action) ≡ true) = both (eqb (longest s n r) n) (outside p (l .action)) e in
-          let o : ((k : ℕ) × (l .action ≡ Action.output k) × (p .allowed k ≡ false)) = outside-output (l .action) (q .1) in
-          ( λ h. record
-              { before = []
-              ; answer = o .0
-              ; after = actions w
-              ; occurs = ap (λ (x : Action). x ∷ actions w) (o .1)
-              ; matched = whole-matched r (q .0)
-              ; outside = o .2
-              }
-          , λ h. ap is-broken (stays-broken w) )
-      go false e ih =
-          ( λ h. breaks-later (l .action) (ih .0 (subst Broken (ap State.matched next-state) h))
-          , λ h. subst Broken (sym (ap State.matched next-state)) (ih .1 (pick (breaks-cases r (l .action) (actions w) h))) )
+          let o : ((k : ℕ) × (l .action ≡ Action.output k) × (p .allowed k ≡ false)) = outside-output (l .action) (q .1) in (
+            λ h. record {
+              before = [];
+              answer = o .0;
+              after = actions w;
+              occurs = ap (λ (x : Action). x ∷ actions w) (o .1);
+              matched = whole-matched r (q .0);
+              outside = o .2;
+            },
+            λ h. ap is-broken (stays-broken w),
+          )
+      go false e ih = (
+        λ h. breaks-later (l .action) (ih .0 (subst Broken (ap State.matched next-state) h)),
+        λ h. subst Broken (sym (ap State.matched next-state)) (ih .1 (pick (breaks-cases r (l .action) (actions w) h))),
+      )
         where
           pick : ((ended s n r ≡ true) × (outside p (l .action) ≡ true)) ⊎ BreaksOn (l .action ∷ r) (actions w) → BreaksOn (l .action ∷ r) (actions w)
           pick (inl h) = absurd (true≢false (sym (and-true (matched-whole r (h .0)) (h .1)) ∙ e))
@@ -300,37 +302,38 @@ module _ (p : Property) where
   breaks-there order h =
       let t : ((rest : List Action) × (reverse (h .before) ≡ beginning s n ++ rest)) = ended-split s n (reverse (h .before)) (h .matched) in
       let e : h .before ≡ reverse (t .0) ++ p .sequence =
-          sym (reverse-reverse (h .before)) ∙ ap reverse (t .1) ∙ reverse-append (beginning s n) (t .0)
-          ∙ ap (λ (x : List Action). reverse (t .0) ++ x) (ap reverse (beginning-whole (p .sequence)) ∙ reverse-reverse (p .sequence)) in
-      record
-        { before = reverse (t .0)
-        ; answer = h .answer
-        ; after = h .after
-        ; occurs =
+      sym (reverse-reverse (h .before)) ∙ ap reverse (t .1) ∙ reverse-append (beginning s n) (t .0)
+      ∙ ap (λ (x : List Action). reverse (t .0) ++ x) (ap reverse (beginning-whole (p .sequence)) ∙ reverse-reverse (p .sequence)) in
+      record {
+        before = reverse (t .0);
+        answer = h .answer;
+        after = h .after;
+        occurs =
             h .occurs ∙ ap (λ (x : List Action). x ++ Action.output (h .answer) ∷ h .after) e
-            ∙ append-assoc (reverse (t .0)) (p .sequence) (Action.output (h .answer) ∷ h .after)
-        ; outside = h .outside
-        }
+            ∙ append-assoc (reverse (t .0)) (p .sequence) (Action.output (h .answer) ∷ h .after);
+        outside = h .outside;
+      }
 
   breaks-back : (order : List Line) → Breaks p order → BreaksOn [] (actions order)
   breaks-back order h =
-      record
-        { before = h .before ++ p .sequence
-        ; answer = h .answer
-        ; after = h .after
-        ; occurs = h .occurs ∙ sym (append-assoc (h .before) (p .sequence) (Action.output (h .answer) ∷ h .after))
-        ; matched =
+      record {
+        before = h .before ++ p .sequence;
+        answer = h .answer;
+        after = h .after;
+        occurs = h .occurs ∙ sym (append-assoc (h .before) (p .sequence) (Action.output (h .answer) ∷ h .after));
+        matched =
             subst (λ (x : List Action). ended s n x ≡ true)
             (ap (λ (x : List Action). x ++ reverse (h .before)) (beginning-whole (p .sequence)) ∙ sym (reverse-append (h .before) (p .sequence)))
-            (ended-join s n (reverse (h .before)))
-        ; outside = h .outside
-        }
+            (ended-join s n (reverse (h .before)));
+        outside = h .outside;
+      }
 
   -- The matcher has broken exactly if the order breaks the property.
   pub matcher-reads : (order : List Line) → (is-broken (along (state-matcher p) (State.matched 0) order) ≡ true) ↔ Breaks p order
-  matcher-reads order =
-      ( λ e. breaks-there order (follow [] order .0 (subst Broken (ap State.matched (sym (nothing-matched n))) e))
-      , λ h. subst Broken (ap State.matched (nothing-matched n)) (follow [] order .1 (breaks-back order h)) )
+  matcher-reads order = (
+    λ e. breaks-there order (follow [] order .0 (subst Broken (ap State.matched (sym (nothing-matched n))) e)),
+    λ h. subst Broken (ap State.matched (nothing-matched n)) (follow [] order .1 (breaks-back order h)),
+  )
     where
       Broken : State → Type 0
       Broken q = is-broken (along (state-matcher p) q order) ≡ true

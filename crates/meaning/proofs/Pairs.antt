@@ -51,7 +51,7 @@ pairs-cross (x ∷ u) v (first a r) = also (all-right u v a) (pairs-cross u v r)
 -- from moments to pairs
 module _ (p : Property) where
   window-stand : (x : Action) (a : ℕ) (y : Action) (b : ℕ) (m n : ℤ)
-    → Window p x a m → Window p y b n → m ≤ℤ n → Stand p x a y b
+      → Window p x a m → Window p y b n → m ≤ℤ n → Stand p x a y b
   window-stand (Action.input j) a (Action.input k) b m n v w h =
       omega (arith, le-out (v .0), le-out (w .1), le-out h)
   window-stand (Action.input j) a (Action.output k) b m n v w h =
@@ -70,7 +70,7 @@ module _ (p : Property) where
   never-fall-tail m (n ∷ ms) h = h .1
 
   head-stands : (l : Line) (m : ℤ) → Window p (l .action) (l .stamp) m → (ls : List Line) (ms : List ℤ)
-    → Given p ls ms → NeverFall (m ∷ ms) → All (May p l) ls
+      → Given p ls ms → NeverFall (m ∷ ms) → All (May p l) ls
   head-stands l m w [] ms g f = done
   head-stands l m w (k ∷ ls) [] g f = absurd g
   head-stands l m w (k ∷ ls) (n ∷ ms) g f =
@@ -120,25 +120,28 @@ module _ (p : Property) (b : Bounds p) where
   max-under m n (Action.output j) t h k = omega arith
 
   in-window : (m : ℕ) (x : Action) (t : ℕ) → low p x t ≤ m → Under p m x t → Window p x t (pos m -ℤ pos (p .UB))
-  in-window m (Action.input j) t h k =
-      ( le-in (pos (t + p .LB)) (pos m -ℤ pos (p .UB)) (omega (arith, minus-sum m (p .UB)))
-      , le-in (pos m -ℤ pos (p .UB)) (pos (t + p .UB)) (omega (arith, minus-sum m (p .UB))) )
-  in-window m (Action.output j) t h k =
-      ( le-in (pos t -ℤ pos (p .UB)) (pos m -ℤ pos (p .UB)) (omega (arith, minus-sum m (p .UB), minus-sum t (p .UB)))
-      , le-in (pos m -ℤ pos (p .UB)) (pos t -ℤ pos (p .LB)) (omega (arith, minus-sum m (p .UB), minus-sum t (p .LB))) )
+  in-window m (Action.input j) t h k = (
+    le-in (pos (t + p .LB)) (pos m -ℤ pos (p .UB)) (omega (arith, minus-sum m (p .UB))),
+    le-in (pos m -ℤ pos (p .UB)) (pos (t + p .UB)) (omega (arith, minus-sum m (p .UB))),
+  )
+  in-window m (Action.output j) t h k = (
+    le-in (pos t -ℤ pos (p .UB)) (pos m -ℤ pos (p .UB)) (omega (arith, minus-sum m (p .UB), minus-sum t (p .UB))),
+    le-in (pos m -ℤ pos (p .UB)) (pos t -ℤ pos (p .LB)) (omega (arith, minus-sum m (p .UB), minus-sum t (p .LB))),
+  )
 
   earliest-given : (m : ℕ) (ls : List Line) → All (λ l. Under p m (l .action) (l .stamp)) ls → Pairs p ls → Given p ls (earliest p m ls)
   unfolding earliest
   earliest-given m [] u c = tt
   earliest-given m (l ∷ ls) (also h u) (first a c) =
-      let low′ : ℕ = low p (l .action) (l .stamp) in
-      ( in-window (max m low′) (l .action) (l .stamp) (omega arith)
-        (max-under m low′ (l .action) (l .stamp) h (own-under (l .action) (l .stamp)))
-      , earliest-given (max m low′) ls
-        (all-map
-        (λ k e. max-under m low′ (k .action) (k .stamp) (e .0) (stand-under (l .action) (l .stamp) (k .action) (k .stamp) (e .1)))
-        (all-both u a))
-        c )
+      let low′ : ℕ = low p (l .action) (l .stamp) in (
+        in-window (max m low′) (l .action) (l .stamp) (omega arith)
+            (max-under m low′ (l .action) (l .stamp) h (own-under (l .action) (l .stamp))),
+        earliest-given (max m low′) ls
+            (all-map
+            (λ k e. max-under m low′ (k .action) (k .stamp) (e .0) (stand-under (l .action) (l .stamp) (k .action) (k .stamp) (e .1)))
+            (all-both u a))
+            c,
+      )
 
   earliest-never-fall : (m : ℕ) (ls : List Line) → NeverFall (earliest p m ls)
   unfolding earliest
@@ -146,14 +149,15 @@ module _ (p : Property) (b : Bounds p) where
   earliest-never-fall m (l ∷ []) = tt
   earliest-never-fall m (l ∷ k ∷ ls) =
       let n : ℕ = max m (low p (l .action) (l .stamp)) in
-      let n′ : ℕ = max n (low p (k .action) (k .stamp)) in
-      ( le-in (pos n -ℤ pos (p .UB)) (pos n′ -ℤ pos (p .UB)) (omega (arith, minus-sum n (p .UB), minus-sum n′ (p .UB)))
-      , earliest-never-fall n (k ∷ ls) )
+      let n′ : ℕ = max n (low p (k .action) (k .stamp)) in (
+        le-in (pos n -ℤ pos (p .UB)) (pos n′ -ℤ pos (p .UB)) (omega (arith, minus-sum n (p .UB), minus-sum n′ (p .UB))),
+        earliest-never-fall n (k ∷ ls),
+      )
 
   pub pairs-timed : (ls : List Line) → Pairs p ls → Timed p ls
   pairs-timed ls c =
-      record
-        { moments = earliest p 0 ls
-        ; given = earliest-given 0 ls (all-of (λ l. zero-under (l .action) (l .stamp)) ls) c
-        ; never-fall = earliest-never-fall 0 ls
-        }
+      record {
+        moments = earliest p 0 ls;
+        given = earliest-given 0 ls (all-of (λ l. zero-under (l .action) (l .stamp)) ls) c;
+        never-fall = earliest-never-fall 0 ls;
+      }

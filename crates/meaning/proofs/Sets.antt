@@ -37,6 +37,6 @@ pub record SetLaws (M : Matcher) (𝓢 : Sets) : Type 1 where
   pub member-none : (s : M .State) → ¬ Member (𝓢 .none) s
   pub member-join : (a b : 𝓢 .Set) (s : M .State) → Member (𝓢 .join a b) s ↔ (Member a s ⊎ Member b s)
   pub member-move : (a : 𝓢 .Set) (l : Line) (s : M .State)
-    → Member (𝓢 .move a l) s ↔ ((r : M .State) × Member a r × (M .step r l ≡ s))
+      → Member (𝓢 .move a l) s ↔ ((r : M .State) × Member a r × (M .step r l ≡ s))
   pub some-broken : (a : 𝓢 .Set) → (𝓢 .some-broken a ≡ true) ↔ ((s : M .State) × Member a s × (M .is-broken s ≡ true))
   pub some-unbroken : (a : 𝓢 .Set) → (𝓢 .some-unbroken a ≡ true) ↔ ((s : M .State) × Member a s × (M .is-broken s ≡ false))

@@ -34,7 +34,7 @@ pub sub-sum : (a b : ℕ) → up (subℕ a b) + b ≡ a + down (subℕ a b)
 sub-sum a b = go (ltb a b) (ltb→lt a b) (nltb→le a b)
   where
     go : (t : Bool) → (T t → suc a ≤ b) → (T (not t) → b ≤ a)
-      → up (cond t (negsuc (b - suc a)) (pos (a - b))) + b ≡ a + down (cond t (negsuc (b - suc a)) (pos (a - b)))
+        → up (cond t (negsuc (b - suc a)) (pos (a - b))) + b ≡ a + down (cond t (negsuc (b - suc a)) (pos (a - b)))
     go true h k = let i : suc a ≤ b = h tt in omega arith
     go false h k = let i : b ≤ a = k tt in omega arith
 

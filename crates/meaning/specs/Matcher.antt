@@ -84,10 +84,10 @@ either s t = record { at = λ k. s .at k || t .at k; with-broken = s .with-broke
 abbrev pub moved : Property → Lengths → Line → Lengths
 moved p s l =
     let n : ℕ = length (p .sequence) in
-    record
-      { at = λ j. some-to n (λ k. s .at k && is-matched j (state-next p (State.matched k) l))
-      ; with-broken = s .with-broken || some-to n (λ k. s .at k && is-broken (state-next p (State.matched k) l))
-      }
+    record {
+      at = λ j. some-to n (λ k. s .at k && is-matched j (state-next p (State.matched k) l));
+      with-broken = s .with-broken || some-to n (λ k. s .at k && is-broken (state-next p (State.matched k) l));
+    }
 
 abbrev pub some-length : Property → Lengths → Bool
 some-length p s = some-to (length (p .sequence)) (s .at)

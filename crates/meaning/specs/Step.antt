@@ -24,15 +24,15 @@ pub record Sets : Type 1 where
 
 abbrev pub lengths : Property → Sets
 lengths p =
-    record
-      { Set = Lengths
-      ; none = none-of
-      ; start = at-start
-      ; join = either
-      ; move = moved p
-      ; some-broken = λ s. s .with-broken
-      ; some-unbroken = some-length p
-      }
+    record {
+      Set = Lengths;
+      none = none-of;
+      start = at-start;
+      join = either;
+      move = moved p;
+      some-broken = λ s. s .with-broken;
+      some-unbroken = some-length p;
+    }
 
 -- An open input, with the set of the cut after it.
 pub record Held (Set : Type 0) : Type 0 where
@@ -156,3 +156,7 @@ module _ (p : Property) (𝓢 : Sets) where
   unfoldable pub cuts-after : Cuts (𝓢 .Set) → List Call → Cuts (𝓢 .Set)
   cuts-after c [] = c
   cuts-after c (k ∷ rest) = cuts-after (cuts-next c k) rest
+
+-- The session over cuts and matched lengths that calls on a fresh one have made.
+abbrev pub grown : (p : Property) → List Call → Cuts Lengths
+grown p calls = cuts-after p (lengths p) (fresh-cuts p (lengths p)) calls
