@@ -33,7 +33,7 @@ module _ (p : Property) where
   Member a (State.matched k) = (k ≤ length (p .sequence)) × (a .at k ≡ true)
   Member a State.broken = a .with-broken ≡ true
 
-  is-matched-eq : (j : ℕ) (q : State) → is-matched j q ≡ true → q ≡ State.matched j
+  pub is-matched-eq : (j : ℕ) (q : State) → is-matched j q ≡ true → q ≡ State.matched j
   is-matched-eq j (State.matched k) e = ap State.matched (eqb-eq e)
   is-matched-eq j State.broken e = absurd (true≢false (sym e))
 
@@ -51,7 +51,7 @@ module _ (p : Property) where
   matched-not-broken : (k : ℕ) → State.matched k ≡ State.broken → ⊥
   matched-not-broken k e = true≢false (ap is-broken (sym e))
 
-  next-le : (k j : ℕ) (l : Line) → state-next p (State.matched k) l ≡ State.matched j → j ≤ length (p .sequence)
+  pub next-le : (k j : ℕ) (l : Line) → state-next p (State.matched k) l ≡ State.matched j → j ≤ length (p .sequence)
   next-le k j l e = go (eqb k (length (p .sequence)) && outside p (l .action)) e
     where
       go : (t : Bool) → cond t State.broken (State.matched (matched-next (p .sequence) k (l .action))) ≡ State.matched j → j ≤ length (p .sequence)

@@ -1,0 +1,85 @@
+-- What refusals 1, 2 and 3 say of a property given as plain data. Assumes nothing.
+use Prim.Native.Nat.{ℕ, zero, suc, _≤_, _<_}
+use mathlib.Core.Path.{_≡_, refl, sym, ap, _∙_}
+use mathlib.Core.Bool.{Bool, true, false, _||_}
+use native.Mathlib.Omega.{arith}
+use borrow.Author.Tests.{ltb-false, le-ltb}
+use lib.ListN.{getD}
+use lib.Dec.{ltb}
+use Rattle.meaning.specs.Numbers.{given, first-of, length-outside, bounds-outside, any-action-above, property-refusal}
+use Rattle.property.specs.declared.Property.{Property}
+use Rattle.property.specs.Meant.{action-of, meant, sequence-of}
+use Rattle.property.proofs.Sequence.{length-first, or-left, or-right, not-above, above-of}
+
+-- The refusal of a sequence of n actions, with the bounds, where b says whether an action number is above 63.
+abbrev pub refusal-of : ℕ → ℕ → ℕ → Bool → ℕ
+refusal-of n lb ub b = first-of (given 1 (length-outside n)) (first-of (given 2 (bounds-outside lb ub)) (given 3 b))
+
+pub refusal-is : (p : Property) → property-refusal (meant p) ≡ refusal-of (p .n) (p .lb) (p .ub) (any-action-above (sequence-of p))
+refusal-is p =
+    ap (λ (n : ℕ). refusal-of n (p .lb) (p .ub) (any-action-above (sequence-of p)))
+    (length-first (λ i. action-of (getD (p .output) i false) (getD (p .number) i 0)) (p .n))
+
+-- What holds of a property that none of the three refuses.
+pub record Taken (n lb ub : ℕ) : Type 0 where
+  pub some : 1 ≤ n
+  pub most : n ≤ 32
+  pub low : 1 ≤ lb
+  pub order : lb ≤ ub
+  pub high : ub ≤ 60_000_000
+
+first-zero : (a b : ℕ) → first-of a b ≡ 0 → a ≡ 0
+first-zero zero b e = refl
+first-zero (suc a) b e = e
+
+then-zero : (a b : ℕ) → first-of a b ≡ 0 → b ≡ 0
+then-zero zero b e = e
+then-zero (suc a) b e = let z : ⊥ = omega arith in absurd z
+
+not-given : (n : ℕ) (b : Bool) → given (suc n) b ≡ 0 → b ≡ false
+not-given n true e = let z : ⊥ = omega arith in absurd z
+not-given n false e = refl
+
+pub taken : (n lb ub : ℕ) (b : Bool) → refusal-of n lb ub b ≡ 0 → Taken n lb ub
+taken n lb ub b e =
+    let later : first-of (given 2 (bounds-outside lb ub)) (given 3 b) ≡ 0 = then-zero (given 1 (length-outside n)) (first-of (given 2 (bounds-outside lb ub)) (given 3 b)) e in
+    let one : length-outside n ≡ false = not-given 0 _ (first-zero (given 1 (length-outside n)) _ e) in
+    let two : bounds-outside lb ub ≡ false = not-given 1 _ (first-zero (given 2 (bounds-outside lb ub)) _ later) in
+    record {
+      some = ltb-false n 1 (or-left (ltb n 1) (ltb 32 n) one);
+      most = ltb-false 32 n (or-right (ltb n 1) (ltb 32 n) one);
+      low = ltb-false lb 1 (or-left (ltb lb 1) (ltb ub lb) (or-left (ltb lb 1 || ltb ub lb) (ltb 60_000_000 ub) two));
+      order = ltb-false ub lb (or-right (ltb lb 1) (ltb ub lb) (or-left (ltb lb 1 || ltb ub lb) (ltb 60_000_000 ub) two));
+      high = ltb-false 60_000_000 ub (or-right (ltb lb 1 || ltb ub lb) (ltb 60_000_000 ub) two);
+    }
+
+pub none-refused : (n lb ub : ℕ) → Taken n lb ub → refusal-of n lb ub false ≡ 0
+none-refused n lb ub t =
+    simp (le-ltb n 1 (t .some), le-ltb 32 n (t .most), le-ltb lb 1 (t .low), le-ltb ub lb (t .order), le-ltb 60_000_000 ub (t .high))
+
+-- No number of the sequence is above 63 where none of the three refuses.
+pub no-number-above : (n lb ub : ℕ) (b : Bool) → refusal-of n lb ub b ≡ 0 → b ≡ false
+no-number-above n lb ub b e =
+    let later : first-of (given 2 (bounds-outside lb ub)) (given 3 b) ≡ 0 =
+    then-zero (given 1 (length-outside n)) (first-of (given 2 (bounds-outside lb ub)) (given 3 b)) e in
+    not-given 2 b (then-zero (given 2 (bounds-outside lb ub)) (given 3 b) later)
+
+module _ (p : Property) (e : property-refusal (meant p) ≡ 0) where
+  pub taken-bounds : Taken (p .n) (p .lb) (p .ub)
+  taken-bounds = taken (p .n) (p .lb) (p .ub) (any-action-above (sequence-of p)) (sym (refusal-is p) ∙ e)
+
+  pub taken-number : (i : ℕ) → i < p .n → getD (p .number) i 0 ≤ 63
+  taken-number i h =
+      ltb-false 63 (getD (p .number) i 0)
+      (sym (above-of (getD (p .output) i false) (getD (p .number) i 0))
+      ∙ not-above (λ j. action-of (getD (p .output) j false) (getD (p .number) j 0)) (p .n)
+      (no-number-above (p .n) (p .lb) (p .ub) (any-action-above (sequence-of p)) (sym (refusal-is p) ∙ e)) i h)
+
+-- The length is judged first.
+pub length-refused : (p : Property) → length-outside (p .n) ≡ true → property-refusal (meant p) ≡ 1
+length-refused p e =
+    refusal-is p
+    ∙ ap
+    (λ (b : Bool).
+    first-of (given 1 b) (first-of (given 2 (bounds-outside (p .lb) (p .ub))) (given 3 (any-action-above (sequence-of p)))))
+    e

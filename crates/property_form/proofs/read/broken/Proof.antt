@@ -1,0 +1,95 @@
+-- `property_form::read::broken` meets its contract: at each `return` the tests say which of 7 and 8 holds. Assumes nothing.
+use Prim.Native.Nat.{ℕ, _+_, _-_, _*_}
+use mathlib.Core.Path.{_≡_, refl, sym, ap, ap₂, _∙_}
+use mathlib.Core.Bool.{Bool, true, false, not}
+use mathlib.Core.List.{List}
+use native.Mathlib.Omega.{arith}
+use borrow.Author.Tests.{lt-ltb, le-ltb, eq-eqb, ne-eqb}
+use lib.ListN.{length}
+use Rattle.meaning.specs.Numbers.{given, first-of}
+use Rattle.fields.specs.Fields.{field}
+use Rattle.property_form.specs.Form.{form-size}
+use Rattle.property_form.specs.Read.{length-read, too-short, pad-read, pad-broken}
+use Rattle.property_form.proofs.Answers.{broken-of}
+use borrow.Author.Needs.{needs}
+use Rattle.property_form.proofs.read.broken.Statement.{statement}
+use Rattle.property_form.proofs.read.broken.Tie as tie
+
+-- the field that was read is the pad
+pad : (s : List ℕ) (n size v : ℕ) → n ≡ length-read s → size ≡ form-size n → v ≡ field s (122 + 7 * n) (8 * size - (122 + 7 * n))
+    → v ≡ pad-read s
+pad s n size v en es e =
+    e ∙ ap₂ (λ (x y : ℕ). field s (122 + 7 * x) (8 * y - (122 + 7 * x))) en (es ∙ ap form-size en)
+
+-- which of the two holds
+judged : (s : List ℕ) (short broken : Bool) → too-short s ≡ short → pad-broken s ≡ broken → first-of (given 7 short) (given 8 broken) ≡ broken-of s
+judged s short broken es eb = sym (ap₂ (λ (x y : Bool). first-of (given 7 x) (given 8 y)) es eb)
+
+returns : tie.Need-returns
+returns c =
+    let s = c .before .before .args .s .now in
+    judged s true (pad-broken s) (lt-ltb (length s) (form-size (length-read s)) (omega arith)) refl
+
+length-of-requires : tie.Need-length-of-requires
+length-of-requires c κs = search needs
+
+size-of-requires : tie.Need-size-of-requires
+size-of-requires c κs = search needs
+
+returns-2 : tie.Need-returns-2
+returns-2 c =
+    let s = c .before .before .before .before .before .args .s .now in
+    judged s true (pad-broken s) (lt-ltb (length s) (form-size (length-read s)) (omega arith)) refl
+
+mul-end : tie.Need-mul-end
+mul-end c = search needs
+
+add-end : tie.Need-add-end
+add-end c = search needs
+
+mul-field-at : tie.Need-mul-field-at
+mul-field-at c = search needs
+
+sub-field-at : tie.Need-sub-field-at
+sub-field-at c = search needs
+
+field-at-requires : tie.Need-field-at-requires
+field-at-requires c κs = search needs
+
+returns-3 : tie.Need-returns-3
+returns-3 c =
+    let s = c .before .before .before .before .before .before .before .args .s .now in
+    let n = c .before .before .before .before .length-of in
+    let size = c .before .before .before .size-of in
+    let v = c .before .field-at in
+    judged s false false (le-ltb (length s) (form-size (length-read s)) (omega arith))
+    (ap not
+    (eq-eqb (pad-read s) 0
+    (sym (pad s (n .result) (size .result) (v .result) (n .ensures .0) (size .ensures) (v .ensures)) ∙ c .if3 .taken)))
+
+returns-4 : tie.Need-returns-4
+returns-4 c =
+    let s = c .before .before .before .before .before .before .before .args .s .now in
+    let n = c .before .before .before .before .length-of in
+    let size = c .before .before .before .size-of in
+    let v = c .before .field-at in
+    judged s false true (le-ltb (length s) (form-size (length-read s)) (omega arith))
+    (ap not
+    (ne-eqb (pad-read s) 0
+    (λ e. c .if3 .left (pad s (n .result) (size .result) (v .result) (n .ensures .0) (size .ensures) (v .ensures) ∙ e))))
+
+pub broken-spec : {M : Type 1} → statement M
+broken-spec =
+    tie.close
+    (tie.spec
+    returns
+    length-of-requires
+    size-of-requires
+    returns-2
+    mul-end
+    add-end
+    mul-field-at
+    sub-field-at
+    field-at-requires
+    returns-3
+    returns-4)

@@ -1,0 +1,107 @@
+-- `property_form::write::put_actions` meets its contract. The loop's invariant: the bits of the first i actions are put. Assumes nothing.
+use Prim.Native.Nat.{ℕ, _-_, _*_, _≤_}
+use mathlib.Core.Path.{_≡_, refl, ap, _∙_}
+use mathlib.Core.Bool.{false}
+use mathlib.Core.List.{[]}
+use native.Mathlib.Nat.{le-antisymm}
+use native.Mathlib.Omega.{arith}
+use borrow.Author.Needs.{needs}
+use lib.ListN.{length, getD}
+use lib.Seq.{paste, paste-zero}
+use Rattle.property.specs.Meant.{first, action-of}
+use Rattle.fields.specs.Fields.{number}
+use Rattle.property_form.specs.Form.{sequence-bits}
+use Rattle.property_form.proofs.Laws.{action-put}
+use Rattle.property_form.proofs.write.put_actions.Statement.{statement}
+use Rattle.property_form.proofs.write.put_actions.Tie as tie
+
+abbrev Inv-loop : tie.InvT-loop
+Inv-loop list₀ n output number i₀ list i =
+    (i ≤ n) × (list ≡ paste list₀ 58 (sequence-bits (first (λ j. action-of (getD output j false) (getD number j 0)) i)) (7 * i)) × (length list ≡ length list₀)
+
+abbrev μ-loop : tie.MeasureT-loop
+μ-loop list₀ n output number i₀ list i = n - i
+
+loop-holds : tie.Need-loop-holds Inv-loop μ-loop
+unfolding first sequence-bits
+loop-holds c = (search needs, paste-zero (c .before .args .list .now) 58 [], refl)
+
+mul-put-field : tie.Need-mul-put-field Inv-loop μ-loop
+mul-put-field c = search needs
+
+add-put-field : tie.Need-add-put-field Inv-loop μ-loop
+add-put-field c = search needs
+
+array-read-one-if : tie.Need-array-read-one-if Inv-loop μ-loop
+array-read-one-if c = search needs
+
+one-if-requires : tie.Need-one-if-requires Inv-loop μ-loop
+one-if-requires c κs = search needs
+
+put-field-requires : tie.Need-put-field-requires Inv-loop μ-loop
+put-field-requires c κs = search needs
+
+mul-put-field-2 : tie.Need-mul-put-field-2 Inv-loop μ-loop
+mul-put-field-2 c = search needs
+
+add-put-field-2 : tie.Need-add-put-field-2 Inv-loop μ-loop
+add-put-field-2 c = search needs
+
+array-read-wide : tie.Need-array-read-wide Inv-loop μ-loop
+array-read-wide c = search needs
+
+wide-requires : tie.Need-wide-requires Inv-loop μ-loop
+wide-requires c κs = search needs
+
+put-field-requires-2 : tie.Need-put-field-requires-2 Inv-loop μ-loop
+put-field-requires-2 c κs = search needs
+
+add-i : tie.Need-add-i Inv-loop μ-loop
+add-i c = search needs
+
+loop-less : tie.Need-loop-less Inv-loop μ-loop
+loop-less c = search needs
+
+loop-again : tie.Need-loop-again Inv-loop μ-loop
+loop-again c =
+    let a = c .before .before .before .before .before .before .before .before .before .before .before .before .before .args in
+    let l = c .before .before .before .before .before .before .before .before .before .before .before .loop in
+    let one = c .before .before .before .before .before .before .before .put-field in
+    let two = c .before .before .put-field2 in (
+      omega (arith, c .before .before .before .before .before .before .before .before .before .before),
+      action-put (a .list .now) (one .last .0) (two .last .0) (l .list) (λ j. getD (a .t2) j false) (λ j. getD (a .t3) j 0)
+          (l .i) (c .before .before .before .before .before .before .before .before .one-if .result) (c .before .before .before .wide .result) (omega (arith, c .before .before .before .before .before .before .before .before .before .before .before .before .before))
+          (l .inv .1) (c .before .before .before .before .before .before .before .before .one-if .ensures) (c .before .before .before .wide .ensures) (one .ensures) (two .ensures),
+      two .kept .0 ∙ one .kept .0 ∙ l .inv .2,
+    )
+
+same-length : tie.Need-same-length Inv-loop μ-loop
+same-length c = c .before .loop .inv .2
+
+returns : tie.Need-returns Inv-loop μ-loop
+returns c =
+    let a = c .before .before .before .args in
+    c .before .loop .inv .1 ∙ ap (λ (k : ℕ). paste (a .list .now) 58 (sequence-bits (first (λ j. action-of (getD (a .t2) j false) (getD (a .t3) j 0)) k)) (7 * k)) (le-antisymm (c .before .loop .inv .0) (c .loop-test .left))
+
+pub put-actions-spec : {M : Type 1} → statement M
+put-actions-spec =
+    tie.close
+    (tie.spec
+    Inv-loop
+    μ-loop
+    loop-holds
+    mul-put-field
+    add-put-field
+    array-read-one-if
+    one-if-requires
+    put-field-requires
+    mul-put-field-2
+    add-put-field-2
+    array-read-wide
+    wide-requires
+    put-field-requires-2
+    add-i
+    loop-less
+    loop-again
+    same-length
+    returns)
