@@ -3,9 +3,8 @@ use Prim.Native.Nat.{ℕ, zero, suc, _+_, _-_, _*_, _^_}
 use mathlib.Core.Path.{_≡_}
 use mathlib.Core.Bool.{Bool, false, not}
 use mathlib.Core.List.{List, _++_}
-use lib.ListN.{length, drop, replicate}
+use lib.ListN.{length, replicate}
 use lib.Dec.{ltb, eqb}
-use denote.Ref.{RefT, ptr, now}
 use Rattle.meaning.specs.Limits.{most-actions}
 use Rattle.meaning.specs.Numbers.{given, first-of, property-refusal}
 use Rattle.property.specs.declared.Property.{Property}
@@ -89,9 +88,3 @@ taken-size (suc r) n = 0
 
 unfoldable pub taken : List ℕ → ℕ
 taken s = taken-size (read-refusal s) (length-read s)
-
--- ".. and hands back the unread rest of the caller's own bytes": r is the part of s from byte k on, in the same place.
-pub record Rest (s : RefT (List ℕ)) (k : ℕ) (r : RefT (List ℕ)) : Type 0 where
-  pub bytes : now r ≡ drop k (now s)
-  pub block : ptr r .0 ≡ ptr s .0
-  pub offset : ptr r .1 ≡ ptr s .1 + k

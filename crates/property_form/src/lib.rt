@@ -4,7 +4,8 @@ mod write;
 
 ghost use mathlib.Core.Path.{_≡_};
 ghost use Rattle.property.specs.Meant.{meant};
-ghost use Rattle.property_form.specs.Read.{read, taken, Rest};
+ghost use Rattle.fields.specs.Rest.{Rest};
+ghost use Rattle.property_form.specs.Read.{read, taken};
 ghost use Rattle.property_form.specs.Write.{written, left};
 
 // The refusal, and the property where it is 0; all zeros otherwise.
@@ -65,7 +66,7 @@ fn taken_by(s: &[u8]) -> usize
 
 // The bytes behind the packed property that the reader takes; all of them where it refuses.
 pub fn property_rest(s: &[u8]) -> &[u8]
-    ensures { λ r. ⌜ Rest (s .entry) (taken (now (s .entry))) r ⌝ }
+    ensures { λ r. ⌜ Rest (taken (now (s .entry))) (s .entry) r ⌝ }
 {
     let k = taken_by(s);
     &s[k..]

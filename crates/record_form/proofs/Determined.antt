@@ -4,14 +4,16 @@ use mathlib.Core.Path.{_≡_, sym, _∙_}
 use mathlib.Core.List.{List}
 use denote.Ref.{RefT, ptr, now}
 use Rattle.record_form.specs.declared.RecordRead.{RecordRead}
-use Rattle.record_form.specs.Record.{IsRead, Rest, IsWritten}
+use Rattle.fields.specs.Rest.{Rest}
+use Rattle.fields.proofs.Determined.{rest-determined}
+use Rattle.record_form.specs.Record.{IsRead, IsWritten}
 
 pub read-record-determined : {s : List ℕ} {before : ℕ} {r t : RecordRead} → IsRead s before r → IsRead s before t → r ≡ t
 read-record-determined p q = p .answer ∙ sym (q .answer)
 
 -- Two rests are at one place and hold the same bytes.
 pub record-rest-determined : {n : ℕ} {s r t : RefT (List ℕ)} → Rest n s r → Rest n s t → (ptr r ≡ ptr t) × (now r ≡ now t)
-record-rest-determined p q = (p .place ∙ sym (q .place), p .bytes ∙ sym (q .bytes))
+record-rest-determined = rest-determined
 
 pub write-record-determined : {kind action stamp before : ℕ} {buffer after₁ after₂ : List ℕ} {r t : ℕ}
     → IsWritten kind action stamp before buffer after₁ r → IsWritten kind action stamp before buffer after₂ t

@@ -14,7 +14,8 @@ use Rattle.fields.specs.Fields.{field, bit}
 use Rattle.fields.proofs.Laws.{number-lt, bit-lt}
 use Rattle.record_form.specs.declared.RecordRead.{RecordRead}
 use Rattle.record_form.specs.declared.RecordRead.the-variants.{Refused}
-use Rattle.record_form.specs.Record.{Answer, numbers, case-of, case-by, taken, refused, unless-refused, broken, stamp-above, fields-refusal, read-refusal, record-answer, IsRead, bytes-read, Rest}
+use Rattle.fields.specs.Rest.{Rest}
+use Rattle.record_form.specs.Record.{Answer, numbers, case-of, case-by, taken, refused, unless-refused, broken, stamp-above, fields-refusal, read-refusal, record-answer, IsRead, bytes-read}
 use Rattle.record_form.proofs.Rules.{or-split, broken-gap, broken-end, broken-kind}
 
 -- ---- "Order where several hold": no refusal of a list means none of each

@@ -13,7 +13,8 @@ use borrow.Author.Tests.{le-ltb, eq-eqb, ne-eqb, eqb-true, eqb-false, not-false}
 use Rattle.fields.specs.Fields.{field, bit, bits, form, size, at, Bits}
 use Rattle.fields.proofs.Laws.{length-bits, field-form, form-run, run-add, bits-number, bit-lt}
 use Rattle.record_form.specs.declared.RecordRead.{RecordRead}
-use Rattle.record_form.specs.Record.{Answer, taken, fields-refusal, read-refusal, record-answer, numbers, IsRead, bytes-read, Rest, write-refusal, Bytes, record-form, written, IsWritten}
+use Rattle.fields.specs.Rest.{Rest}
+use Rattle.record_form.specs.Record.{Answer, taken, fields-refusal, read-refusal, record-answer, numbers, IsRead, bytes-read, write-refusal, Bytes, record-form, written, IsWritten}
 use Rattle.record_form.proofs.Rules.{within}
 use Rattle.record_form.proofs.Reading.{Taken, unbroken, is-taken, taken-answer, refusal-of, field-lt, size-taken}
 use Rattle.record_form.proofs.Writing.{record-bits, length-record-form, Bits-record, Writable, is-writable, written-form}

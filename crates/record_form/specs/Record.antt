@@ -5,7 +5,6 @@ use mathlib.Core.List.{List, _++_}
 use mathlib.Core.Path.{_≡_}
 use lib.ListN.{length, drop, getD}
 use lib.Dec.{ltb, eqb}
-use denote.Ref.{RefT, ptr, now}
 use Rattle.meaning.specs.Limits.{last-action, last-stamp}
 use Rattle.meaning.specs.Numbers.{given, first-of}
 use Rattle.fields.specs.Fields.{field, bits, form}
@@ -104,11 +103,6 @@ pub record IsRead (s : List ℕ) (before : ℕ) (r : RecordRead) : Type 0 where
 -- The number of bytes that the reader takes: "A reader takes one form from the front"; refused, none.
 unfoldable pub bytes-read : List ℕ → ℕ → ℕ
 bytes-read s before = given record-size (eqb (read-refusal s before) 0)
-
--- "hands back the unread rest of the caller's own bytes": r is s behind its first n bytes, the place and what stands there.
-pub record Rest (n : ℕ) (s r : RefT (List ℕ)) : Type 0 where
-  pub place : ptr r ≡ (ptr s .0, ptr s .1 + n)
-  pub bytes : now r ≡ drop n (now s)
 
 -- 8, 3, 4, 5 and 9 of a record to be written into a buffer of so many bytes; the stamp field is not 0 where the stamp is
 -- other than the one before ("so its stamp is the one before").

@@ -5,7 +5,8 @@ ghost use Prim.Native.Nat.{_+_, _≤_, _<_};
 ghost use lib.ListN.{length, drop};
 ghost use lib.Dec.{eqb};
 ghost use Rattle.fields.specs.Fields.{field};
-ghost use Rattle.record_form.specs.Record.{record-size, numbers, case-of, taken, unless-refused, broken, stamp-above, fields-refusal, IsRead, bytes-read, Rest, write-refusal, record-form, IsWritten};
+ghost use Rattle.fields.specs.Rest.{Rest};
+ghost use Rattle.record_form.specs.Record.{record-size, numbers, case-of, taken, unless-refused, broken, stamp-above, fields-refusal, IsRead, bytes-read, write-refusal, record-form, IsWritten};
 
 const RECORD_SIZE: usize = 6;
 

@@ -31,8 +31,7 @@ returns c =
     record {
       bytes = take-all (length (now s) - k .result) (drop (k .result) (now s)) (omega (arith, length-drop (k .result) (now s)))
           ∙ ap (λ (x : ℕ). drop x (now s)) (k .ensures);
-      block = refl;
-      offset = add-comm (k .result) (ptr s .1) ∙ ap (λ (x : ℕ). ptr s .1 + x) (k .ensures);
+      place = ap (λ (x : ℕ). (ptr s .0, x)) (add-comm (k .result) (ptr s .1) ∙ ap (λ (x : ℕ). ptr s .1 + x) (k .ensures));
     }
 
 pub property-rest-spec : {M : Type 1} → statement M
