@@ -1,0 +1,2 @@
+-- The promise of the call on a kept session fixes what comes back.
+pub mod Determined

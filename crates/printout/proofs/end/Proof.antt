@@ -1,0 +1,37 @@
+-- `printout::end` meets its contract. Assumes nothing.
+use lib.Dec.{lit≤}
+use Rattle.printout.specs.Text.{end-text}
+use Rattle.printout.proofs.Growth.{then, whole}
+use borrow.Author.Needs.{needs}
+use Rattle.printout.proofs.end.Statement.{statement}
+use Rattle.printout.proofs.end.Tie as tie
+
+empty-requires : tie.Need-empty-requires
+empty-requires c κs = search needs
+
+slice-aggregate-put-word : tie.Need-slice-aggregate-put-word
+slice-aggregate-put-word c = search needs
+
+put-word-requires : tie.Need-put-word-requires
+put-word-requires c κs = search needs
+
+put-number-requires : tie.Need-put-number-requires
+put-number-requires c κs = search needs
+
+put-requires : tie.Need-put-requires
+put-requires c κs = search needs
+
+returns : tie.Need-returns
+unfolding end-text
+returns c = whole (c .before .before .before .before .empty .ensures .0) (then (then (c .before .before .put-word .ensures) (c .before .put-number .ensures)) (c .put .ensures)) (lit≤ tt)
+
+pub end-spec : {M : Type 1} → statement M
+end-spec =
+    tie.close
+    (tie.spec
+    empty-requires
+    slice-aggregate-put-word
+    put-word-requires
+    put-number-requires
+    put-requires
+    returns)

@@ -1,0 +1,73 @@
+-- `printout::put_verdict` meets its contract, word by word. Assumes nothing.
+use Prim.Native.Nat.{ℕ, zero, suc}
+use mathlib.Core.Path.{_≡_, refl, sym, ap}
+use lib.Dec.{lit≤}
+use Rattle.printout.specs.Text.{word}
+use Rattle.printout.proofs.Growth.{renamed, wider}
+use borrow.Author.Needs.{needs}
+use Rattle.printout.proofs.put_verdict.Statement.{statement}
+use Rattle.printout.proofs.put_verdict.Tie as tie
+
+other : (verdict : ℕ) → (verdict ≡ 0 → ⊥) → (verdict ≡ 1 → ⊥) → (verdict ≡ 2 → ⊥) → word 3 ≡ word verdict
+unfolding word
+other zero not-0 not-1 not-2 = absurd (not-0 refl)
+other (suc zero) not-0 not-1 not-2 = absurd (not-1 refl)
+other (suc (suc zero)) not-0 not-1 not-2 = absurd (not-2 refl)
+other (suc (suc (suc verdict))) not-0 not-1 not-2 = refl
+
+slice-aggregate-put-word : tie.Need-slice-aggregate-put-word
+slice-aggregate-put-word c = search needs
+
+put-word-requires : tie.Need-put-word-requires
+put-word-requires c κs = search needs
+
+slice-aggregate-put-word-2 : tie.Need-slice-aggregate-put-word-2
+slice-aggregate-put-word-2 c = search needs
+
+put-word-requires-2 : tie.Need-put-word-requires-2
+put-word-requires-2 c κs = search needs
+
+slice-aggregate-put-word-3 : tie.Need-slice-aggregate-put-word-3
+slice-aggregate-put-word-3 c = search needs
+
+put-word-requires-3 : tie.Need-put-word-requires-3
+put-word-requires-3 c κs = search needs
+
+slice-aggregate-put-word-4 : tie.Need-slice-aggregate-put-word-4
+slice-aggregate-put-word-4 c = search needs
+
+put-word-requires-4 : tie.Need-put-word-requires-4
+put-word-requires-4 c κs = search needs
+
+returns : tie.Need-returns
+unfolding word
+returns c = wider (lit≤ tt) (renamed (ap word (sym (c .before .before .match .keys1))) (c .put-word .ensures))
+
+returns-2 : tie.Need-returns-2
+unfolding word
+returns-2 c = wider (lit≤ tt) (renamed (ap word (sym (c .before .before .match .keys2))) (c .put-word2 .ensures))
+
+returns-3 : tie.Need-returns-3
+unfolding word
+returns-3 c = wider (lit≤ tt) (renamed (ap word (sym (c .before .before .match .keys3))) (c .put-word3 .ensures))
+
+returns-4 : tie.Need-returns-4
+unfolding word
+returns-4 c = wider (lit≤ tt) (renamed (other _ (c .before .before .match .rest .0 .0 .1) (c .before .before .match .rest .0 .1) (c .before .before .match .rest .1)) (c .put-word4 .ensures))
+
+pub put-verdict-spec : {M : Type 1} → statement M
+put-verdict-spec =
+    tie.close
+    (tie.spec
+    slice-aggregate-put-word
+    put-word-requires
+    slice-aggregate-put-word-2
+    put-word-requires-2
+    slice-aggregate-put-word-3
+    put-word-requires-3
+    slice-aggregate-put-word-4
+    put-word-requires-4
+    returns
+    returns-2
+    returns-3
+    returns-4)

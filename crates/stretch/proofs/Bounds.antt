@@ -1,0 +1,187 @@
+-- Every refusal is at most 10 and every verdict at most 3, so that the one number fits.
+use Prim.Native.Nat.{ℕ, zero, suc, _+_, _≤_}
+use mathlib.Core.Path.{_≡_, refl, sym, _∙_, ap, subst}
+use mathlib.Core.Bool.{Bool, true, false, not, _&&_}
+use mathlib.Core.List.{List, [], _∷_}
+use native.Mathlib.Omega.{arith}
+use lib.ListN.{length, drop}
+use lib.Dec.{ltb, eqb}
+use Rattle.meaning.specs.Node.{Verdict, verdict-number}
+use Rattle.meaning.specs.Limits.{last-stamp, most-open}
+use Rattle.meaning.specs.Words.{Line}
+use Rattle.meaning.specs.Words
+use Rattle.meaning.specs.Numbers.{given, first-of, property-refusal, length-outside, bounds-outside, any-action-above, action-above}
+use Rattle.meaning.specs.Calls.{Call, unless-refused, stamp-refusal}
+use Rattle.meaning.specs.Calls
+use Rattle.meaning.specs.Step.{lengths, cuts-verdict, cuts-open, cuts-with-line, cuts-refusal, cuts-told, cuts-taken, fresh-cuts}
+use Rattle.property.specs.Meant.{meant}
+use Rattle.property.specs.declared.Property.{Property}
+use Rattle.property_form.specs.Read.{read, read-refusal, too-short, pad-broken, property-read, taken}
+use Rattle.fields.specs.Fields.{field}
+use Rattle.property_form.proofs.Answers.{refusal-read}
+use Rattle.record_form.specs.Record.{record-answer, record-size, broken, stamp-above, fields-refusal}
+use Rattle.record_form.specs.Record
+use Rattle.record_form.proofs.Reading.{refusal-of as read-number}
+use Rattle.session.specs.declared.Session.{Session}
+use Rattle.session.specs.declared.Stepped.{Stepped}
+use Rattle.session.specs.Record.{cuts-of, record-of, out-of-range}
+use Rattle.session.specs.Step.{stepped-of, refusal-of, answer-of}
+use Rattle.walk.specs.declared.Stop.{Stop}
+use Rattle.walk.specs.declared.Stop.the-variants.{Budget, End, Refused}
+use Rattle.walk.specs.declared.Walked.{Walked}
+use Rattle.walk.specs.Walk.{One, one-call, try-call, one-kind, one-read, one-of, walked-by, walk-on}
+use Rattle.stretch.specs.declared.Judged.{Judged}
+use Rattle.stretch.specs.Judge.{refused, standing, ended, by-stop, walked, trace-judged, by-property, judge-of}
+
+first-le : (m x y : ℕ) → x ≤ m → y ≤ m → first-of x y ≤ m
+first-le m zero y h k = k
+first-le m (suc x) y h k = h
+
+given-le : (m n : ℕ) (b : Bool) → n ≤ m → given n b ≤ m
+given-le m n true h = h
+given-le m n false h = omega arith
+
+-- two and three refusals, each if it is given
+two-le : (a b : ℕ) (x y : Bool) → a ≤ 10 → b ≤ 10 → first-of (given a x) (given b y) ≤ 10
+two-le a b x y h k = first-le 10 (given a x) (given b y) (given-le 10 a x h) (given-le 10 b y k)
+
+then-le : (a : ℕ) (x : Bool) (y : ℕ) → a ≤ 10 → y ≤ 10 → first-of (given a x) y ≤ 10
+then-le a x y h k = first-le 10 (given a x) y (given-le 10 a x h) k
+
+property-le : (p : Property) → property-refusal (meant p) ≤ 10
+property-le p =
+    let q : Words.Property = meant p in
+    then-le 1 (length-outside (length (q .sequence))) (first-of (given 2 (bounds-outside (q .LB) (q .UB))) (given 3 (any-action-above (q .sequence)))) (omega arith)
+    (two-le 2 3 (bounds-outside (q .LB) (q .UB)) (any-action-above (q .sequence)) (omega arith) (omega arith))
+
+read-le : (s : List ℕ) → read s .refusal ≤ 10
+unfolding read-refusal
+read-le s =
+    subst (λ (n : ℕ). n ≤ 10) (sym (refusal-read s))
+    (then-le 7 (too-short s) (first-of (given 8 (pad-broken s)) (property-refusal (meant (property-read s)))) (omega arith)
+    (then-le 8 (pad-broken s) (property-refusal (meant (property-read s))) (omega arith) (property-le (property-read s))))
+
+record-le : (s : List ℕ) (before : ℕ) → record-answer s before .refusal ≤ 10
+unfolding Record.read-refusal fields-refusal
+record-le s before =
+    subst (λ (n : ℕ). n ≤ 10) (sym (read-number s before))
+    (then-le 7 (ltb (length s) record-size) (fields-refusal (field s 0 2) (field s 2 6) (field s 8 40) before) (omega arith)
+    (two-le 8 4 (broken (field s 0 2) (field s 2 6) (not (eqb (field s 8 40) 0))) (stamp-above (before + field s 8 40) before) (omega arith) (omega arith)))
+
+refusal-le : (s : Session) (c : Call) → refusal-of s c ≤ 10
+unfolding refusal-of
+refusal-le s c =
+    then-le 10 (out-of-range s) (cuts-refusal (meant (s .property)) (lengths (meant (s .property))) (cuts-of s) c) (omega arith) (step-le c)
+  where
+    stamp-le : (latest t : ℕ) → stamp-refusal latest t ≤ 10
+    stamp-le latest t = two-le 4 5 (ltb last-stamp t) (ltb t latest) (omega arith) (omega arith)
+
+    room : Line → Bool
+    room l = not (s .blind) && ltb most-open (cuts-open (meant (s .property)) (lengths (meant (s .property))) (cuts-with-line (meant (s .property)) (lengths (meant (s .property))) (cuts-of s) l))
+
+    step-le : (c : Call) → cuts-refusal (meant (s .property)) (lengths (meant (s .property))) (cuts-of s) c ≤ 10
+    step-le (Call.line l) =
+        then-le 3 (action-above (l .action)) (first-of (stamp-refusal (s .latest) (l .stamp)) (given 6 (room l))) (omega arith)
+        (first-le 10 (stamp-refusal (s .latest) (l .stamp)) (given 6 (room l)) (stamp-le (s .latest) (l .stamp)) (given-le 10 6 (room l) (omega arith)))
+    step-le (Call.mark g) = stamp-le (s .latest) g
+
+stepped-le : (s : Session) (c : Call) → stepped-of s c .answer .refusal ≤ 10
+unfolding stepped-of
+stepped-le s c = go (refusal-of s c) (refusal-le s c)
+  where
+    made : ℕ → Stepped
+    made k =
+        unless-refused k
+        (record {
+          answer = answer-of (cuts-told (meant (s .property)) (lengths (meant (s .property))) (cuts-of s) c);
+          session = record-of (s .property) (cuts-taken (meant (s .property)) (lengths (meant (s .property))) (cuts-of s) c);
+        })
+        (record { answer = answer-of (Calls.refused k); session = s })
+
+    told-le : (d : Call) → cuts-told (meant (s .property)) (lengths (meant (s .property))) (cuts-of s) d .refusal ≤ 10
+    told-le (Call.line l) = omega arith
+    told-le (Call.mark g) = omega arith
+
+    go : (k : ℕ) → k ≤ 10 → made k .answer .refusal ≤ 10
+    go zero h = told-le c
+    go (suc k) h = h
+
+-- of one record and of a walk
+abbrev OneLe : One → Type 0
+OneLe One.ended = Unit {0}
+OneLe (One.refused n) = n ≤ 10
+OneLe (One.took c after) = Unit {0}
+
+abbrev StopLe : Stop → Type 0
+StopLe Budget = Unit {0}
+StopLe End = Unit {0}
+StopLe (Refused n) = n ≤ 10
+
+one-le : (s : Session) (bytes : List ℕ) → OneLe (one-of s bytes)
+one-le s bytes = go _ _ _ _ (record-le bytes (s .latest))
+  where
+    call : (c : Call) (n : ℕ) → n ≤ 10 → OneLe (one-call s c n)
+    call c zero h = unfold one-call in tt
+    call c (suc n) h = unfold one-call in h
+
+    kind : (k a t : ℕ) → OneLe (one-kind s k a t)
+    kind zero a t = unfold one-kind in (call _ _ (stepped-le s _))
+    kind (suc zero) a t = unfold one-kind in (call _ _ (stepped-le s _))
+    kind (suc (suc zero)) a t = unfold one-kind in (call _ _ (stepped-le s _))
+    kind (suc (suc (suc k))) a t = unfold one-kind in tt
+
+    go : (n k a t : ℕ) → n ≤ 10 → OneLe (one-read s n k a t)
+    go zero k a t h = unfold one-read in (kind k a t)
+    go (suc n) k a t h = unfold one-read in h
+
+walk-le : (budget : ℕ) (s : Session) (bytes : List ℕ) → StopLe (walk-on budget s bytes .stop)
+unfolding walk-on
+walk-le zero s bytes = tt
+walk-le (suc budget) s bytes = go (one-of s bytes) (one-le s bytes) (λ after. walk-le budget after (drop record-size bytes))
+  where
+    go : (o : One) → OneLe o → ((after : Session) → StopLe (walk-on budget after (drop record-size bytes) .stop))
+        → StopLe (walked-by o s (λ after. walk-on budget after (drop record-size bytes)) .stop)
+    go One.ended h k = unfold walked-by in tt
+    go (One.refused n) h k = unfold walked-by in h
+    go (One.took c after) h k = unfold walked-by in (k after)
+
+verdict-le : (v : Verdict) → verdict-number v ≤ 3
+verdict-le Verdict.clear = omega arith
+verdict-le Verdict.suspect = omega arith
+verdict-le Verdict.certain = omega arith
+verdict-le Verdict.blind = omega arith
+
+pub record Small (j : Judged) : Type 0 where
+  pub refusal-small : j .refusal ≤ 10
+  pub verdict-small : j .verdict ≤ 3
+
+refused-small : (n : ℕ) → n ≤ 10 → Small (refused n)
+refused-small n h = record { refusal-small = h; verdict-small = omega arith }
+
+stop-small : (stop : Stop) → StopLe stop → (behind : Bool) (w : Walked) → Small (by-stop stop behind w)
+unfolding by-stop
+stop-small Budget h behind w = refused-small 7 (omega arith)
+stop-small (Refused n) h behind w = refused-small n h
+stop-small End h true w = refused-small 8 (omega arith)
+stop-small End h false w =
+    record {
+      refusal-small = omega arith;
+      verdict-small = verdict-le (cuts-verdict (meant (w .session .property)) (lengths (meant (w .session .property))) (cuts-of (w .session)));
+    }
+
+pub judge-small : (property trace : List ℕ) → Small (judge-of property trace)
+unfolding judge-of
+judge-small property trace =
+    go (read property .refusal) (read-le property) (ltb (taken property) (length property)) (trace-judged p trace)
+    (stop-small (walked p trace .stop) (walk-le (length trace) (record-of p (fresh-cuts (meant p) (lengths (meant p)))) trace) (ltb (walked p trace .read) (length trace)) (walked p trace))
+  where
+    p : Property
+    p = read property .property
+
+    go : (n : ℕ) → n ≤ 10 → (behind : Bool) (j : Judged) → Small j → Small (by-property n behind j)
+    go zero h true j k = unfold by-property in (refused-small 8 (omega arith))
+    go zero h false j k = unfold by-property in k
+    go (suc n) h behind j k = unfold by-property in (refused-small (suc n) h)
+
+pub judged-small : (property trace : List ℕ) (j : Judged) → j ≡ judge-of property trace → Small j
+judged-small property trace j e = subst Small (sym e) (judge-small property trace)

@@ -1,0 +1,12 @@
+-- Each promise determines the whole answer: two results allowed by it are equal. Assumes nothing.
+use Prim.Native.Nat.{ℕ}
+use mathlib.Core.Path.{_≡_, sym, _∙_}
+use mathlib.Core.List.{List}
+use Rattle.stretch.specs.declared.Judged.{Judged}
+use Rattle.stretch.specs.Judge.{judge-of, one-number}
+
+pub judge-determined : (property trace : List ℕ) (r t : Judged) → r ≡ judge-of property trace → t ≡ judge-of property trace → r ≡ t
+judge-determined property trace r t e f = e ∙ sym f
+
+pub stretch-judge-determined : (property trace : List ℕ) (r t : ℕ) → r ≡ one-number (judge-of property trace) → t ≡ one-number (judge-of property trace) → r ≡ t
+stretch-judge-determined property trace r t e f = e ∙ sym f

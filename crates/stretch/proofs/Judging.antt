@@ -1,0 +1,159 @@
+-- How the judge's parts come together.
+use Prim.Native.Nat.{ℕ, zero, suc, _+_, _*_, _≤_, _<_}
+use mathlib.Core.Path.{_≡_, refl, sym, _∙_, ap, subst}
+use mathlib.Core.Bool.{Bool, true, false, cond}
+use mathlib.Core.List.{List, [], _∷_}
+use native.Mathlib.Omega.{arith}
+use lib.ListN.{length, drop, length-drop}
+use lib.Dec.{ltb}
+use borrow.Author.Tests.{lt-ltb, le-ltb}
+use denote.Ref.{RefT, now}
+use Rattle.meaning.specs.Node.{Verdict, verdict-number}
+use Rattle.meaning.specs.Numbers.{property-refusal}
+use Rattle.meaning.specs.Calls.{unless-refused}
+use Rattle.meaning.specs.Calls
+use Rattle.meaning.specs.Step.{lengths, fresh-cuts, front-verdict, cuts-verdict, told}
+use Rattle.property.specs.Meant.{meant}
+use Rattle.property.specs.declared.Property.{Property}
+use Rattle.property.proofs.Sequence.{length-first}
+use Rattle.fields.specs.Rest.{Rest}
+use Rattle.property_form.specs.declared.PropertyRead.{PropertyRead}
+use Rattle.property_form.specs.Read.{read, read-refusal, taken}
+use Rattle.property_form.proofs.Answers.{refusal-read, not-refused, property-of-read, taken-le}
+use Rattle.session.specs.declared.Session.{Session}
+use Rattle.session.specs.declared.Stepped.{Stepped}
+use Rattle.session.specs.Record.{cuts-of, record-of, out-of-range}
+use Rattle.session.specs.Lent.{in-arrays, Ready}
+use Rattle.session.specs.Step.{fresh-of, answer-of, no-session}
+use Rattle.session.proofs.Range.{in-range, fresh-fit}
+use Rattle.walk.specs.declared.Stop.{Stop}
+use Rattle.walk.specs.declared.Stop.the-variants.{Budget, End, Refused}
+use Rattle.walk.specs.declared.Walked.{Walked}
+use Rattle.walk.specs.Walk.{walk-on}
+use Rattle.stretch.specs.declared.Judged.{Judged}
+use Rattle.stretch.specs.Judge.{refused, standing, ended, by-stop, walked, trace-judged, by-property, judge-of, in-one, one-number}
+
+module _ (p : Property) (good : property-refusal (meant p) ≡ 0) where
+  -- a fresh session of a property that is taken
+  pub fresh-is : (r : Stepped) → r ≡ fresh-of p → r .session ≡ record-of p (fresh-cuts (meant p) (lengths (meant p)))
+  unfolding fresh-of
+  fresh-is r e =
+      ap (λ (x : Stepped). x .session) e
+      ∙ ap
+      (λ (n : ℕ).
+      unless-refused {A = Stepped} n
+      (record {
+        answer = answer-of (told (meant p) (lengths (meant p)) Verdict.clear 0);
+        session = record-of p (fresh-cuts (meant p) (lengths (meant p)));
+      })
+      (record { answer = answer-of (Calls.refused n); session = no-session }) .session)
+      good
+
+  -- its arrays, with the property beside them
+  abbrev pub lent : Stepped → Session
+  lent r =
+      let s : Session = r .session in
+      in-arrays p (s .held) (s .acts) (s .masks) (s .broken) (s .count) (s .latest) (s .blind)
+
+  lent-is : (r : Stepped) → r ≡ fresh-of p → lent r ≡ record-of p (fresh-cuts (meant p) (lengths (meant p)))
+  lent-is r e = ap (λ (s : Session). in-arrays p (s .held) (s .acts) (s .masks) (s .broken) (s .count) (s .latest) (s .blind)) (fresh-is r e)
+
+  pub fresh-ready : (r : Stepped) → r ≡ fresh-of p → Ready (lent r)
+  fresh-ready r e =
+      subst Ready (sym (lent-is r e))
+      (record {
+        fits = in-range p good (fresh-fit p good);
+        whole = record { held-long = length-first _ 64; acts-long = length-first _ 64; masks-long = length-first _ 65; broken-long = length-first _ 65 };
+      })
+
+  -- the judgement, by what the walk over the trace came to
+  pub judged-by : (trace : List ℕ) (r : Stepped) → r ≡ fresh-of p → (w : Walked) → walk-on (length trace) (lent r) trace ≡ w
+      → trace-judged p trace ≡ by-stop (w .stop) (ltb (w .read) (length trace)) w
+  judged-by trace r e w h =
+      ap (λ (x : Walked). by-stop (x .stop) (ltb (x .read) (length trace)) x)
+      (ap (λ (s : Session). walk-on (length trace) s trace) (sym (lent-is r e)) ∙ h)
+
+-- each way to stop
+module _ (p : Property) (good : property-refusal (meant p) ≡ 0) (trace : List ℕ) (r : Stepped) (e : r ≡ fresh-of p) (w : Walked)
+    (h : walk-on (length trace) (lent p good r) trace ≡ w) where
+  stopped-by : (stop : Stop) → w .stop ≡ stop → trace-judged p trace ≡ by-stop stop (ltb (w .read) (length trace)) w
+  stopped-by stop q = judged-by p good trace r e w h ∙ ap (λ (x : Stop). by-stop x (ltb (w .read) (length trace)) w) q
+
+  pub judged-budget : w .stop ≡ Budget → trace-judged p trace ≡ refused 7
+  unfolding by-stop
+  judged-budget q = stopped-by Budget q
+
+  pub judged-refused : (n : ℕ) → w .stop ≡ Refused n → trace-judged p trace ≡ refused n
+  unfolding by-stop
+  judged-refused n q = stopped-by (Refused n) q
+
+  pub judged-behind : w .stop ≡ End → w .read < length trace → trace-judged p trace ≡ refused 8
+  unfolding by-stop
+  judged-behind q lt = stopped-by End q ∙ ap (λ (t : Bool). ended t w) (lt-ltb (w .read) (length trace) lt)
+
+  pub judged-ended : w .stop ≡ End → length trace ≤ w .read → _≡_ {A = Judged} (trace-judged p trace) (record { refusal = 0; verdict = standing (w .session); count = w .taken })
+  unfolding by-stop
+  judged-ended q le = stopped-by End q ∙ ap (λ (t : Bool). ended t w) (le-ltb (w .read) (length trace) le)
+
+-- the property first
+pub property-refused : (property trace : List ℕ) (r : PropertyRead) → r ≡ read property → (r .refusal ≡ 0 → ⊥) → judge-of property trace ≡ refused (r .refusal)
+unfolding judge-of
+property-refused property trace r e h =
+    ap (λ (n : ℕ). by-property n (ltb (taken property) (length property)) (trace-judged (read property .property) trace)) (sym (ap (λ (x : PropertyRead). x .refusal) e))
+    ∙ by-number (r .refusal) h
+  where
+    by-number : (n : ℕ) → (n ≡ 0 → ⊥) → by-property n (ltb (taken property) (length property)) (trace-judged (read property .property) trace) ≡ refused n
+    by-number zero k = absurd (k refl)
+    by-number (suc n) k = unfold by-property in refl
+
+module _ (property trace : List ℕ) (r : PropertyRead) (e : r ≡ read property) (z : r .refusal ≡ 0) where
+  by-taken : judge-of property trace ≡ cond (ltb (taken property) (length property)) (refused 8) (trace-judged (read property .property) trace)
+  unfolding judge-of
+  by-taken =
+      ap (λ (n : ℕ). by-property n (ltb (taken property) (length property)) (trace-judged (read property .property) trace)) (sym (ap (λ (x : PropertyRead). x .refusal) e) ∙ z)
+      ∙ shown
+    where
+      shown : by-property 0 (ltb (taken property) (length property)) (trace-judged (read property .property) trace)
+          ≡ cond (ltb (taken property) (length property)) (refused 8) (trace-judged (read property .property) trace)
+      shown = unfold by-property in refl
+
+  -- bytes behind the property
+  pub bytes-behind : (rest : List ℕ) → rest ≡ drop (taken property) property → 0 < length rest → judge-of property trace ≡ refused 8
+  bytes-behind rest d h =
+      let lt : taken property < length property = omega (arith, length-drop (taken property) property, ap length d) in
+      by-taken ∙ ap (λ (t : Bool). cond t (refused 8) (trace-judged (read property .property) trace)) (lt-ltb (taken property) (length property) lt)
+
+  pub nothing-behind : (rest : List ℕ) → rest ≡ drop (taken property) property → length rest ≤ 0 → judge-of property trace ≡ trace-judged (r .property) trace
+  nothing-behind rest d h =
+      let le : length property ≤ taken property = omega (arith, length-drop (taken property) property, ap length d) in
+      by-taken
+      ∙ ap (λ (t : Bool). cond t (refused 8) (trace-judged (read property .property) trace)) (le-ltb (taken property) (length property) le)
+      ∙ ap (λ (x : PropertyRead). trace-judged (x .property) trace) (sym e)
+
+  -- what was read is a property that no refusal names
+  pub taken-good : property-refusal (meant (r .property)) ≡ 0
+  taken-good =
+      let none : read-refusal property ≡ 0 = sym (refusal-read property) ∙ sym (ap (λ (x : PropertyRead). x .refusal) e) ∙ z in
+      ap (λ (q : Property). property-refusal (meant q)) (ap (λ (x : PropertyRead). x .property) e ∙ property-of-read property none) ∙ not-refused property none
+
+-- the verdict standing
+pub standing-blind : (s : Session) → s .blind ≡ true → 3 ≡ standing s
+standing-blind s e =
+    ap
+    (λ (t : Bool). verdict-number (cond t Verdict.blind (front-verdict (meant (s .property)) (lengths (meant (s .property))) (cuts-of s .front))))
+    (sym e)
+
+pub standing-open : (s : Session) → s .blind ≡ false → verdict-number (front-verdict (meant (s .property)) (lengths (meant (s .property))) (cuts-of s .front)) ≡ standing s
+standing-open s e =
+    ap
+    (λ (t : Bool). verdict-number (cond t Verdict.blind (front-verdict (meant (s .property)) (lengths (meant (s .property))) (cuts-of s .front))))
+    (sym e)
+
+-- the one number
+pub one-long : (j : Judged) → 16_383 < j .count → 9 * 65_536 ≡ one-number j
+unfolding one-number
+one-long j h = sym (ap (λ (t : Bool). cond t (in-one 9 0 0) (in-one (j .refusal) (j .verdict) (j .count))) (lt-ltb 16_383 (j .count) h))
+
+pub one-short : (j : Judged) → j .count ≤ 16_383 → j .refusal * 65_536 + j .verdict * 16_384 + j .count ≡ one-number j
+unfolding one-number
+one-short j h = sym (ap (λ (t : Bool). cond t (in-one 9 0 0) (in-one (j .refusal) (j .verdict) (j .count))) (le-ltb 16_383 (j .count) h))

@@ -1,0 +1,148 @@
+-- A walk on its way: what has been taken and read so far, and what is left of the walk.
+use Prim.Native.Nat.{ℕ, zero, suc, _+_, _-_, _≤_, _<_}
+use mathlib.Core.Path.{_≡_, refl, sym, _∙_, ap, subst}
+use mathlib.Core.Bool.{Bool, true, false, cond}
+use mathlib.Core.List.{List}
+use native.Mathlib.Omega.{arith}
+use lib.ListN.{length, take, drop, length-drop}
+use lib.Seq.{drop-drop, take-all}
+use Rattle.record_form.specs.Record.{record-size}
+use Rattle.session.specs.declared.Session.{Session}
+use Rattle.session.specs.Record.{out-of-range}
+use Rattle.session.specs.Lent.{Ready}
+use Rattle.walk.specs.declared.Stop.{Stop}
+use Rattle.walk.specs.declared.Stop.the-variants.{Budget, End, Refused}
+use Rattle.walk.specs.declared.Did.{Did}
+use Rattle.walk.specs.declared.Did.the-variants.{Took, Ended, Not}
+use Rattle.walk.specs.declared.Walked.{Walked}
+use Rattle.walk.specs.Walk.{One, one-of, stopped, one-more, walked-by, walk-on, budget-of, walk-of}
+use Rattle.walk.specs.Lent.{did-by, Turned, IsRun}
+
+-- so many records and bytes before a walk
+abbrev pub ahead : ℕ → ℕ → Walked → Walked
+ahead taken read w = record { taken = taken + w .taken; stop = w .stop; read = read + w .read; session = w .session }
+
+pub record Going (budget taken at : ℕ) (start now : Session) (bytes : List ℕ) : Type 0 where
+  pub within : taken ≤ budget
+  pub inside : at ≤ length bytes
+  pub ready : Ready now
+  pub same : walk-on budget start bytes ≡ ahead taken at (walk-on (budget - taken) now (drop at bytes))
+
+pub going-start : (budget : ℕ) (s : Session) (bytes : List ℕ) → Ready s → Going budget 0 0 s s bytes
+going-start budget s bytes h =
+    record {
+      within = omega arith;
+      inside = omega arith;
+      ready = h;
+      same =
+          let e : budget ≡ budget - 0 = omega arith in
+          ap (λ (b : ℕ). walk-on b s bytes) e ∙ none-ahead (walk-on (budget - 0) s bytes);
+    }
+  where
+    none-ahead : (w : Walked) → w ≡ ahead 0 0 w
+    none-ahead w =
+        let t : w .taken ≡ 0 + w .taken = omega arith in
+        let r : w .read ≡ 0 + w .read = omega arith in
+        λ i. record { taken = t i; stop = w .stop; read = r i; session = w .session }
+
+module _ {budget taken at : ℕ} {start now : Session} {bytes : List ℕ} (g : Going budget taken at start now bytes) where
+  -- with budget left the walk is what the next record leads to
+  next-record : {did : Did} {after : Session} → taken < budget → Turned now (drop at bytes) did after
+      → walk-on budget start bytes
+      ≡ ahead taken at (did-by did now after (λ s. walk-on (budget - (taken + 1)) s (drop record-size (drop at bytes))))
+  next-record {did} {after} left h =
+      g .same
+      ∙ ap (λ (b : ℕ). ahead taken at (walk-on b now (drop at bytes))) one-left
+      ∙ ap (ahead taken at) (shown (budget - (taken + 1)) ∙ h .leads (λ s. walk-on (budget - (taken + 1)) s (drop record-size (drop at bytes))))
+    where
+      one-left : budget - taken ≡ suc (budget - (taken + 1))
+      one-left = omega arith
+
+      shown : (b : ℕ) → walk-on (suc b) now (drop at bytes) ≡ walked-by (one-of now (drop at bytes)) now (λ s. walk-on b s (drop record-size (drop at bytes)))
+      shown b = unfold walk-on in refl
+
+  pub going-took : (after : Session) → taken < budget → Turned now (drop at bytes) Took after → Going budget (taken + 1) (at + record-size) start after bytes
+  going-took after left h =
+      record {
+        within = omega arith;
+        inside = omega (arith, h .leaves, length-drop at bytes, g .inside);
+        ready = h .ready;
+        same =
+            next-record left h
+            ∙ ap (ahead taken at) shown
+            ∙ one-ahead (walk-on (budget - (taken + 1)) after (drop record-size (drop at bytes)))
+            ∙ ap (λ (l : List ℕ). ahead (taken + 1) (at + record-size) (walk-on (budget - (taken + 1)) after l)) (drop-drop record-size at bytes);
+      }
+    where
+      shown : did-by Took now after (λ s. walk-on (budget - (taken + 1)) s (drop record-size (drop at bytes)))
+          ≡ one-more (walk-on (budget - (taken + 1)) after (drop record-size (drop at bytes)))
+      shown = unfold did-by in refl
+
+      one-ahead : (w : Walked) → ahead taken at (one-more w) ≡ ahead (taken + 1) (at + record-size) w
+      one-ahead w =
+          let t : taken + suc (w .taken) ≡ taken + 1 + w .taken = omega arith in
+          let r : at + (record-size + w .read) ≡ at + record-size + w .read = omega arith in
+          λ i. record { taken = t i; stop = w .stop; read = r i; session = w .session }
+
+  stopped-ahead : (stop : Stop) (read : ℕ) (after : Session) → after ≡ now
+      → ahead taken at (stopped now stop read) ≡ record { taken = taken; stop = stop; read = at + read; session = after }
+  stopped-ahead stop read after e =
+      let t : taken + 0 ≡ taken = omega arith in
+      λ i. record { taken = t i; stop = stop; read = at + read; session = sym e i }
+
+  pub going-ended : (after : Session) → taken < budget → Turned now (drop at bytes) Ended after → IsRun budget start bytes taken End (at + record-size) after
+  going-ended after left h =
+      record {
+        walked = next-record left h ∙ ap (ahead taken at) shown ∙ stopped-ahead End record-size after (h .leaves .0);
+        within = omega (arith, h .leaves .1, length-drop at bytes, g .inside);
+        ready = h .ready;
+      }
+    where
+      shown : did-by Ended now after (λ s. walk-on (budget - (taken + 1)) s (drop record-size (drop at bytes))) ≡ stopped now End record-size
+      shown = unfold did-by in refl
+
+  pub going-refused : (n : ℕ) (after : Session) → taken < budget → Turned now (drop at bytes) (Not n) after → IsRun budget start bytes taken (Refused n) at after
+  going-refused n after left h =
+      record {
+        walked = next-record left h ∙ ap (ahead taken at) shown ∙ stopped-ahead (Refused n) 0 after (h .leaves) ∙ plain;
+        within = g .inside;
+        ready = h .ready;
+      }
+    where
+      shown : did-by (Not n) now after (λ s. walk-on (budget - (taken + 1)) s (drop record-size (drop at bytes))) ≡ stopped now (Refused n) 0
+      shown = unfold did-by in refl
+
+      plain : _≡_ {A = Walked} (record { taken = taken; stop = Refused n; read = at + 0; session = after }) (record { taken = taken; stop = Refused n; read = at; session = after })
+      plain = let e : at + 0 ≡ at = omega arith in λ i. record { taken = taken; stop = Refused n; read = e i; session = after }
+
+  pub going-done : budget ≤ taken → IsRun budget start bytes taken Budget at now
+  going-done h =
+      let e : budget - taken ≡ 0 = omega arith in
+      record {
+        walked =
+            g .same ∙ ap (λ (b : ℕ). ahead taken at (walk-on b now (drop at bytes))) e ∙ ap (ahead taken at) shown ∙ stopped-ahead Budget 0 now refl ∙ plain;
+        within = g .inside;
+        ready = g .ready;
+      }
+    where
+      shown : walk-on 0 now (drop at bytes) ≡ stopped now Budget 0
+      shown = unfold walk-on in refl
+
+      plain : _≡_ {A = Walked} (record { taken = taken; stop = Budget; read = at + 0; session = now }) (record { taken = taken; stop = Budget; read = at; session = now })
+      plain = let e : at + 0 ≡ at = omega arith in λ i. record { taken = taken; stop = Budget; read = e i; session = now }
+
+-- the part of the trace that a record is read from, as the code lends it
+pub turned-part : {s after : Session} {did did′ : Did} (bytes : List ℕ) (at : ℕ) → did ≡ did′
+    → Turned s (take (length bytes - at) (drop at bytes)) did after → Turned s (drop at bytes) did′ after
+turned-part {s} {after} {did} bytes at e h =
+    subst (λ (d : Did). Turned s (drop at bytes) d after) e
+    (subst (λ (l : List ℕ). Turned s l did after) (take-all (length bytes - at) (drop at bytes) (omega (arith, length-drop at bytes))) h)
+
+-- refusal 10 first, whatever the budget
+pub walk-refused : (s : Session) (bytes : List ℕ) (budget : ℕ) → out-of-range s ≡ true → walk-of s bytes budget ≡ stopped s (Refused 10) 0
+unfolding walk-of
+walk-refused s bytes budget e = ap (λ (t : Bool). cond t (stopped s (Refused 10) 0) (walk-on (budget-of budget) s bytes)) e
+
+pub walk-taken : (s : Session) (bytes : List ℕ) (budget : ℕ) → out-of-range s ≡ false → walk-of s bytes budget ≡ walk-on (budget-of budget) s bytes
+unfolding walk-of
+walk-taken s bytes budget e = ap (λ (t : Bool). cond t (stopped s (Refused 10) 0) (walk-on (budget-of budget) s bytes)) e

@@ -1,0 +1,4 @@
+pub mod Steps
+pub mod Dids
+pub mod Going
+pub mod Determined
