@@ -32,7 +32,6 @@ use Rattle.session.proofs.Grown.{grown-stands}
 use Rattle.session.proofs.Running.{running-record, running-answer}
 use Rattle.walk.specs.Walk.{walk-on}
 use Rattle.walk.proofs.Steps.{Exactly, walk-exactly}
-
 -- Demand 2's packed half: "Packed properties and traces read back as written, and only one packing of each is taken."
 pub use Rattle.property_form.proofs.RoundTrip.{write-then-read as property-reads-back, read-then-write as property-writes-back, one-packing as property-one-packing}
 pub use Rattle.record_form.proofs.Trace.{trace-reads-back, trace-writes-back, trace-one-packing}
@@ -172,14 +171,14 @@ module _ (p : Data.Property) (good : property-refusal (meant p) ≡ 0) where
       ∙ refusal-agrees (meant p) (good-bounds (meant p) good) (state-matcher (meant p)) (lengths (meant p)) (length-laws (meant p)) (matcher-reads (meant p)) (agrees (meant p) good calls) c
     where
       number-is : (k : ℕ) (d : Call)
-        → unless-refused k (cuts-told (meant p) (lengths (meant p)) (grown (meant p) calls) d) (Calls.refused k) .refusal ≡ k
+          → unless-refused k (cuts-told (meant p) (lengths (meant p)) (grown (meant p) calls) d) (Calls.refused k) .refusal ≡ k
       number-is zero (Call.line l) = refl
       number-is zero (Call.mark g) = refl
       number-is (suc k) d = refl
 
   -- the answer is the one of the rules, verdict and number open included, and no other is (demand 2),
   pub running-2 : (calls : List Call) (c : Call)
-    → (a : Answer) × IsAnswer (meant p) (watched (meant p) fresh calls) c a × (stepped-of (running calls) c .answer ≡ answer-of a)
+      → (a : Answer) × IsAnswer (meant p) (watched (meant p) fresh calls) c a × (stepped-of (running calls) c .answer ≡ answer-of a)
   running-2 calls c =
       (cuts-answer (meant p) (lengths (meant p)) (grown (meant p) calls) c, demand-2 (meant p) good calls .answer c, running-answer p good calls c)
 
@@ -189,26 +188,26 @@ module _ (p : Data.Property) (good : property-refusal (meant p) ≡ 0) where
 
   -- Demand 3 of the running session: blind until the boundary,
   pub running-3-blind : (earlier : List Event) (g : ℕ) (between : List Event)
-    → AllTaken (meant p) fresh (fed earlier ++ Call.mark g ∷ fed between) → Quiet (meant p) (highest 0 (fed earlier ++ Call.mark g ∷ [])) (fed between)
-    → cuts-verdict (meant p) (lengths (meant p)) (cuts-of (running (fed earlier ++ Call.mark g ∷ fed between))) ≡ Verdict.blind
+      → AllTaken (meant p) fresh (fed earlier ++ Call.mark g ∷ fed between) → Quiet (meant p) (highest 0 (fed earlier ++ Call.mark g ∷ [])) (fed between)
+      → cuts-verdict (meant p) (lengths (meant p)) (cuts-of (running (fed earlier ++ Call.mark g ∷ fed between))) ≡ Verdict.blind
   running-3-blind earlier g between takes quiet =
       ap (cuts-verdict (meant p) (lengths (meant p))) (running-stands (fed earlier ++ Call.mark g ∷ fed between)) ∙ demand-3-blind (meant p) good earlier g between takes quiet
 
   -- and exact over the full history from it to the next mark.
   pub running-3 : (earlier : List Event) (g : ℕ) (between : List Event) (first : Line) (later : List Event)
-    → Premises ((earlier ++ Event.mark g ∷ between) ++ Event.line first ∷ later)
-    → AllTaken (meant p) fresh (fed ((earlier ++ Event.mark g ∷ between) ++ Event.line first ∷ later))
-    → Quiet (meant p) (highest 0 (fed earlier ++ Call.mark g ∷ [])) (fed between)
-    → highest 0 (fed (earlier ++ Event.mark g ∷ between)) + 2 * meant p .UB < first .stamp
-    → NoMark (fed later)
-    → VerdictFor (BreaksAfter (meant p) (all-lines (earlier ++ Event.mark g ∷ between))) (meant p)
+      → Premises ((earlier ++ Event.mark g ∷ between) ++ Event.line first ∷ later)
+      → AllTaken (meant p) fresh (fed ((earlier ++ Event.mark g ∷ between) ++ Event.line first ∷ later))
+      → Quiet (meant p) (highest 0 (fed earlier ++ Call.mark g ∷ [])) (fed between)
+      → highest 0 (fed (earlier ++ Event.mark g ∷ between)) + 2 * meant p .UB < first .stamp
+      → NoMark (fed later)
+      → VerdictFor (BreaksAfter (meant p) (all-lines (earlier ++ Event.mark g ∷ between))) (meant p)
       (all-lines ((earlier ++ Event.mark g ∷ between) ++ Event.line first ∷ later))
       (cuts-verdict (meant p) (lengths (meant p)) (cuts-of (running (fed ((earlier ++ Event.mark g ∷ between) ++ Event.line first ∷ later)))))
   running-3 earlier g between first later premises takes quiet far no-mark =
       subst
       (λ c.
-        VerdictFor (BreaksAfter (meant p) (all-lines (earlier ++ Event.mark g ∷ between))) (meant p)
-        (all-lines ((earlier ++ Event.mark g ∷ between) ++ Event.line first ∷ later))
-        (cuts-verdict (meant p) (lengths (meant p)) c))
+      VerdictFor (BreaksAfter (meant p) (all-lines (earlier ++ Event.mark g ∷ between))) (meant p)
+      (all-lines ((earlier ++ Event.mark g ∷ between) ++ Event.line first ∷ later))
+      (cuts-verdict (meant p) (lengths (meant p)) c))
       (sym (running-stands (fed ((earlier ++ Event.mark g ∷ between) ++ Event.line first ∷ later))))
       (demand-3 (meant p) good earlier g between first later premises takes quiet far no-mark)

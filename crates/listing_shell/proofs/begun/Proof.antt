@@ -1,0 +1,38 @@
+-- `listing_shell::begun` meets its contract: what the property adds fits its room. Assumes nothing.
+use Prim.Native.Nat.{_≤_}
+use mathlib.Core.Path.{sym, subst}
+use Rattle.printout.specs.Text.{room}
+use Rattle.printed.specs.declared.Printed.{Printed}
+use Rattle.printed.proofs.Fits.{begun-fits}
+use borrow.Author.Needs.{needs}
+use Rattle.listing_shell.proofs.begun.Statement.{statement}
+use Rattle.listing_shell.proofs.begun.Tie as tie
+
+slice-aggregate-read-form : tie.Need-slice-aggregate-read-form
+slice-aggregate-read-form c = search needs
+
+read-form-requires : tie.Need-read-form-requires
+read-form-requires c κs = search needs
+
+array-share-prefix-form : tie.Need-array-share-prefix-form
+array-share-prefix-form c = search needs
+
+slice-aggregate-begin : tie.Need-slice-aggregate-begin
+slice-aggregate-begin c = search needs
+
+begin-requires : tie.Need-begin-requires
+begin-requires c κs = search needs
+
+returns : tie.Need-returns
+returns c = subst (λ (p : Printed). p .text .len ≤ room) (sym (c .begin .ensures)) (begun-fits _)
+
+pub begun-spec : {M : Type 1} → statement M
+begun-spec =
+    tie.close
+    (tie.spec
+    slice-aggregate-read-form
+    read-form-requires
+    array-share-prefix-form
+    slice-aggregate-begin
+    begin-requires
+    returns)

@@ -1,0 +1,81 @@
+-- `listing_shell::read_form` meets its contract: no form is longer than 71 bytes, and the first stands before the others. Assumes nothing.
+use Prim.Native.Nat.{ℕ, _+_, _-_, _≤_, _<_}
+use mathlib.Core.List.{List, _++_}
+use native.Mathlib.Omega.{arith}
+use lib.ListN.{length, drop, length-append, length-take}
+use borrow.Rule.Slice.PartMut.{putMid}
+use Rattle.io.specs.Counts.{Counts}
+use Rattle.io.proofs.Counting.{counts}
+use borrow.Author.Needs.{needs}
+use Rattle.listing_shell.proofs.read_form.Statement.{statement}
+use Rattle.listing_shell.proofs.read_form.Tie as tie
+
+-- the bytes read behind the first one, counted from the first
+part-counts : (k r : ℕ) (xs ys : List ℕ) → 0 < length xs → r ≤ length ys → Counts (1 + r) (putMid 1 k xs ys)
+part-counts k r xs ys h l = counts (1 + r) (putMid 1 k xs ys) (simp length-append (omega (arith, length-take 1 xs)))
+
+slice-relend-prefix-read-full : tie.Need-slice-relend-prefix-read-full
+slice-relend-prefix-read-full c = search needs
+
+slice-aggregate-read-full : tie.Need-slice-aggregate-read-full
+slice-aggregate-read-full c = counts 1 (c .before .before .args .form .now) (omega arith) .1
+
+read-full-requires : tie.Need-read-full-requires
+read-full-requires c κs = search needs
+
+same-length : tie.Need-same-length
+same-length c = search needs
+
+returns : tie.Need-returns
+returns c = search needs
+
+slice-read-size : tie.Need-slice-read-size
+slice-read-size c = search needs
+
+size-requires : tie.Need-size-requires
+size-requires c κs = search needs
+
+sub-read-full : tie.Need-sub-read-full
+sub-read-full c = search needs
+
+part-read-full-start : tie.Need-part-read-full-start
+part-read-full-start c = search needs
+
+part-read-full-end : tie.Need-part-read-full-end
+part-read-full-end c = search needs
+
+read-full-requires-2 : tie.Need-read-full-requires-2
+read-full-requires-2 c κs = search needs
+
+add-result : tie.Need-add-result
+add-result c = search needs
+
+same-length-2 : tie.Need-same-length-2
+same-length-2 c = search needs
+
+returns-2 : tie.Need-returns-2
+returns-2 c =
+    let first = c .before .before .before .before .before .before .before .before .before .read-full .last .1 .0 in
+    let rest = c .before .before .read-full2 in
+    part-counts (c .before .before .before .before .size .result - 1) (rest .result) (first ++ drop 1 (c .before .before .before .before .before .before .before .before .before .before .before .before .args .form .now)) (rest .last .1 .0)
+    (slice-read-size (c .before .before .before .before .before))
+    (rest .ensures .0)
+
+pub read-form-spec : {M : Type 1} → statement M
+read-form-spec =
+    tie.close
+    (tie.spec
+    slice-relend-prefix-read-full
+    slice-aggregate-read-full
+    read-full-requires
+    same-length
+    returns
+    slice-read-size
+    size-requires
+    sub-read-full
+    part-read-full-start
+    part-read-full-end
+    read-full-requires-2
+    add-result
+    same-length-2
+    returns-2)

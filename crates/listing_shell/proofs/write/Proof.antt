@@ -1,0 +1,17 @@
+-- `listing_shell::write` is safe: the text is no longer than its room. Assumes nothing.
+use native.Mathlib.Omega.{arith}
+use borrow.Author.Needs.{needs}
+use Rattle.listing_shell.proofs.write.Statement.{statement}
+use Rattle.listing_shell.proofs.write.Tie as tie
+
+slice-aggregate-write-front : tie.Need-slice-aggregate-write-front
+slice-aggregate-write-front c = search needs
+
+write-front-requires : tie.Need-write-front-requires
+write-front-requires c κs = omega (arith, slice-aggregate-write-front c)
+
+returns : tie.Need-returns
+returns c = search needs
+
+pub write-spec : {M : Type 1} → statement M
+write-spec = tie.close (tie.spec slice-aggregate-write-front write-front-requires returns)

@@ -1,0 +1,15 @@
+-- What the benchmark's function gives back.
+use Prim.Native.Nat.{ℕ, zero, suc}
+use mathlib.Core.List.{List}
+use Rattle.property_form.specs.Read.{read}
+use Rattle.session.specs.declared.Session.{Session}
+use Rattle.session.specs.Step.{fresh-of}
+use Rattle.walk.specs.Walk.{walk-of}
+
+-- The number of records that the last of so many walks took.
+unfoldable pub taken-by : Session → List ℕ → ℕ → ℕ → ℕ
+taken-by s trace budget zero = 0
+taken-by s trace budget (suc times) = walk-of s trace budget .taken
+
+abbrev pub paced : List ℕ → List ℕ → ℕ → ℕ → ℕ
+paced property trace budget times = taken-by (fresh-of (read property .property) .session) trace budget times

@@ -1,0 +1,30 @@
+-- `printed::begin` meets its contract: all is read off the property's reader. Assumes nothing.
+use mathlib.Core.Path.{ap, _∙_}
+use lib.Dec.{eqb}
+use Rattle.property_form.specs.declared.PropertyRead.{PropertyRead}
+use Rattle.session.specs.Step.{fresh-of}
+use Rattle.printout.specs.Text.{text-of}
+use Rattle.printed.specs.Printed.{opening-text, begun-of}
+use borrow.Author.Needs.{needs}
+use Rattle.printed.proofs.begin.Statement.{statement}
+use Rattle.printed.proofs.begin.Tie as tie
+
+read-property-requires : tie.Need-read-property-requires
+read-property-requires c κs = search needs
+
+fresh-requires : tie.Need-fresh-requires
+fresh-requires c κs = search needs
+
+opening-requires : tie.Need-opening-requires
+opening-requires c κs = search needs
+
+returns : tie.Need-returns
+unfolding begun-of
+returns c =
+    let e = c .before .before .before .before .read-property .ensures in
+    let text = c .opening .ensures ∙ ap (λ (r : PropertyRead). text-of (opening-text (r .refusal))) e in
+    let fresh = c .before .before .fresh .ensures ∙ ap (λ (r : PropertyRead). fresh-of (r .property)) e in
+    λ i. record { text = text i; session = fresh i .session; count = 0; more = eqb (e i .refusal) 0 }
+
+pub begin-spec : {M : Type 1} → statement M
+begin-spec = tie.close (tie.spec read-property-requires fresh-requires opening-requires returns)

@@ -1,0 +1,70 @@
+-- Document 01, case 15: what the printing program adds to its listing for the property and for each record.
+use Prim.Native.Nat.{ℕ, zero, suc, _+_, _%_, _^_}
+use mathlib.Core.Bool.{true, false, cond}
+use mathlib.Core.List.{List, []}
+use lib.Dec.{eqb}
+use Rattle.meaning.specs.Words.{Action}
+use Rattle.meaning.specs.Calls.{Call}
+use Rattle.meaning.specs.Node.{verdict-number}
+use Rattle.meaning.specs.Step.{lengths, cuts-verdict}
+use Rattle.property.specs.Meant.{meant}
+use Rattle.property_form.specs.Read.{read}
+use Rattle.record_form.specs.Record.{input, output, gap}
+use Rattle.cuts.specs.Arrays.{number-of}
+use Rattle.session.specs.declared.Session.{Session}
+use Rattle.session.specs.Record.{cuts-of, out-of-range}
+use Rattle.session.specs.Step.{fresh-of}
+use Rattle.walk.specs.Walk.{One, one-of}
+use Rattle.printout.specs.Text.{line-text, end-text, stop-text, text-of}
+use Rattle.printed.specs.declared.Printed.{Printed}
+
+-- The number of records taken, one more than before. It is kept in 64 bits: 0 comes after 2 ^ 64 − 1.
+unfoldable pub one-after : ℕ → ℕ
+one-after count = (count + 1) % 2 ^ 64
+
+-- "I, O or G": the kind of a line by its action.
+abbrev pub kind-of : Action → ℕ
+kind-of (Action.input k) = input
+kind-of (Action.output k) = output
+
+-- The verdict that stands on a session.
+unfoldable pub standing : Session → ℕ
+standing s = verdict-number (cuts-verdict (meant (s .property)) (lengths (meant (s .property))) (cuts-of s))
+
+-- The line of a record that was taken as a call: "record number from 1; I, O or G; action; stamp; verdict after it; number
+-- open", the last two on the session after it.
+unfoldable pub call-text : ℕ → Call → Session → List ℕ
+call-text number (Call.line l) after =
+    line-text number (kind-of (l .action)) (number-of (l .action)) (l .stamp) (standing after) (after .count)
+call-text number (Call.mark g) after = line-text number gap 0 g (standing after) (after .count)
+
+-- The listing ends with this line; the session and the count are as they were.
+abbrev pub last-line : Session → ℕ → List ℕ → Printed
+last-line s count text = record { text = text-of text; session = s; count = count; more = false }
+
+-- By what a record does to the session: "The last line counts the records taken; after a refusal it is `stop`, the count and
+-- the refusal number instead."
+unfoldable pub by-one : Session → ℕ → One → Printed
+by-one s count One.ended = last-line s count (end-text count)
+by-one s count (One.refused n) = last-line s count (stop-text count n)
+by-one s count (One.took c after) =
+    record { text = text-of (call-text (one-after count) c after); session = after; count = one-after count; more = true }
+
+-- What the record at the front of the bytes adds, after so many that were taken. As in a walk, refusal 10 comes first.
+unfoldable pub printed-of : Session → ℕ → List ℕ → Printed
+printed-of s count bytes = cond (out-of-range s) (last-line s count (stop-text count 10)) (by-one s count (one-of s bytes))
+
+-- "A refused property prints the header and `stop 0` with its number"; one that is taken, the header alone.
+abbrev pub opening-text : ℕ → List ℕ
+opening-text zero = []
+opening-text (suc n) = stop-text 0 (suc n)
+
+-- What the property at the front of the bytes adds behind the header, and the fresh session of it.
+unfoldable pub begun-of : List ℕ → Printed
+begun-of bytes =
+    record {
+      text = text-of (opening-text (read bytes .refusal));
+      session = fresh-of (read bytes .property) .session;
+      count = 0;
+      more = eqb (read bytes .refusal) 0;
+    }

@@ -1,0 +1,50 @@
+/*
+ * Judges one stretch: judge PROPERTY TRACE, two files of packed bytes.
+ * Prints one line, 'refusal R verdict WORD count N'. The word is 'none' after a refusal, since
+ * what was refused has not been found clear.
+ */
+#include "anthegyra.h"
+
+#include <stdio.h>
+#include <stdlib.h>
+
+static void give_up(const char *why)
+{
+    fprintf(stderr, "judge: %s\n", why);
+    exit(2);
+}
+
+/* The whole file, however long: a part of it would get a refusal that the file does not deserve. */
+static uint8_t *bytes_of(const char *name, size_t *len)
+{
+    uint8_t *bytes = NULL;
+    size_t got;
+    FILE *file = fopen(name, "rb");
+    if (!file) give_up("a file cannot be opened");
+    *len = 0;
+    do {
+        bytes = realloc(bytes, *len + 65536);
+        if (!bytes) give_up("no memory");
+        got = fread(bytes + *len, 1, 65536, file);
+        *len += got;
+    } while (got > 0);
+    if (ferror(file)) give_up("a file cannot be read");
+    fclose(file);
+    return bytes;
+}
+
+int main(int argc, char **argv)
+{
+    static const char *const words[] = {"clear", "suspect", "certain", "blind"};
+    if (argc != 3) give_up("usage: judge PROPERTY TRACE");
+    size_t property_len, trace_len;
+    uint8_t *property = bytes_of(argv[1], &property_len);
+    uint8_t *trace = bytes_of(argv[2], &trace_len);
+    uint64_t n = anthegyra_stretch_judge(property, property_len, trace, trace_len);
+    unsigned refusal = anthegyra_refusal(n);
+    printf("refusal %u verdict %s count %u\n", refusal,
+           refusal ? "none" : words[anthegyra_verdict(n)], anthegyra_count(n));
+    free(property);
+    free(trace);
+    return 0;
+}

@@ -1,0 +1,151 @@
+#!/bin/sh
+# Builds the C programs over the archive of the stretch judge and runs them.
+#
+#   tests/c.sh ARCHIVE FOLDER        as: tests/c.sh target/staticlib/libstretch.a target/c
+#
+# The archive is x86-64. On such a machine the system's C compiler builds, and the programs run as
+# they are. Elsewhere, or where C_BY_KIT is set, the kit's own compiler and linker build for x86-64 and
+# the programs run as rt runs its own: under the kit's loader and C library, and its emulator where
+# it has one. ORDERS and DAMAGED are the numbers of random inputs, 20000 each unless set.
+set -u
+
+[ $# -eq 2 ] || { echo "usage: tests/c.sh ARCHIVE FOLDER" >&2; exit 2; }
+[ -f "$1" ] || { echo "c.sh: there is no archive $1" >&2; exit 2; }
+archive=$(cd "$(dirname "$1")" && pwd -P)/$(basename "$1")
+mkdir -p "$2" || exit 2
+build=$(cd "$2" && pwd -P)
+top=$(cd "$(dirname "$0")/.." && pwd -P)
+status=0
+
+good() { printf 'c: %s\n' "$*"; }
+bad() { printf 'c: FAILED: %s\n' "$*"; status=1; }
+
+# ---- how this machine builds and runs an x86-64 program
+
+warnings='-O2 -Wall -Wextra -Werror'
+kit=''
+if [ "$(uname -m)" != x86_64 ] || [ -n "${C_BY_KIT:-}" ] || ! command -v cc >/dev/null; then
+    kit=$(rt doc) || { echo "c.sh: no C compiler for x86-64, and no rt to find the kit by" >&2; exit 2; }
+    kit=$(dirname "$(dirname "$kit")")
+    own=$kit/on/$(uname -m)
+    tools=$own/toolchain
+    emulator=$tools/bin/qemu-x86_64
+    [ -x "$emulator" ] || emulator=''
+    # as rt does: the emulator takes orders from the environment too
+    for word in $(env | sed -n 's/^\(QEMU_[A-Za-z0-9_]*\)=.*/\1/p'); do unset "$word"; done
+    mkdir -p "$build/headers" || exit 2
+    for header in stddef stdint stdio stdlib string; do
+        cp "$top/tests/libc.h" "$build/headers/$header.h" || exit 2
+    done
+fi
+
+compile() { # C-FILE PROGRAM
+    if [ -n "$kit" ]; then
+        # shellcheck disable=SC2086
+        "$tools/bin/clang" --target=x86_64-unknown-linux-gnu -std=c99 $warnings -fPIE -nostdinc \
+            -isystem "$build/headers" -I "$top/include" -I "$top/tests" -c "$1" -o "$2.o" &&
+            "$own/bin/rattle-link" --target x86_64-unknown-linux-gnu --toolchain "$tools" -o "$2" \
+                "$2.o" "$archive"
+    else
+        # shellcheck disable=SC2086
+        cc -std=c99 $warnings -I "$top/include" -I "$top/tests" "$1" "$archive" -o "$2"
+    fi >"$2.log" 2>&1 || { cat "$2.log"; return 1; }
+}
+
+run() { # PROGRAM WORDS...
+    if [ -n "$kit" ]; then
+        ${emulator:+"$emulator"} "$tools/lib/ld-linux-x86-64.so.2" --library-path "$tools/lib" "$@"
+    else
+        "$@"
+    fi
+}
+
+# ---- the packing script, and the samples that it packed
+
+pack() { python3 "$top/tools/pack" "$@"; }
+
+samples_are_as_packed() {
+    while read -r name _; do
+        pack "$top/samples/$name.txt" >"$build/$name.bin" || return 1
+        cmp "$build/$name.bin" "$top/samples/$name.bin" || return 1
+    done <"$top/tests/samples.expected"
+}
+
+# The bytes that document 01 prints for case 15.
+case15_is_as_printed() {
+    want=0400000A00000780200000000000000000
+    want=${want}000000000064420000000014420000000029C00000000000
+    got=$(od -An -v -tx1 "$top/samples/case11.bin" | tr -d ' \n' | tr a-f A-F)
+    [ "$got" = "$want" ] && return
+    printf 'case 15 is %s\nsamples/case11.bin is %s\n' "$want" "$got"
+    return 1
+}
+
+# Each bad text: the number of its bad line, then the text with \n for its line ends.
+bad_texts_are_refused() {
+    while IFS='|' read -r number text; do
+        printf %b "$text" | pack >"$build/bad.out" 2>"$build/bad.err"
+        if [ $? -ne 1 ] || [ -s "$build/bad.out" ] ||
+            ! grep -q "^pack: line $number: " "$build/bad.err"; then
+            echo "the text: $text"
+            cat "$build/bad.err"
+            return 1
+        fi
+    done <"$top/tests/pack.refused"
+}
+
+if samples_are_as_packed && case15_is_as_printed && bad_texts_are_refused; then
+    good "pack: samples, the bytes of case 15 and refused texts as expected"
+else
+    bad pack
+fi
+
+# ---- the header alone, as C++ reads it
+
+if [ -z "$kit" ] && command -v c++ >/dev/null; then
+    # shellcheck disable=SC2086
+    if c++ -x c++ -std=c++11 $warnings -pedantic -fsyntax-only "$top/include/anthegyra.h"; then
+        good "header: taken by C++"
+    else
+        bad "header: not taken by C++"
+    fi
+fi
+
+# ---- the programs
+
+if compile "$top/tests/edges.c" "$build/edges" && run "$build/edges" >"$build/edges.out" &&
+    cmp "$build/edges.out" "$top/tests/edges.expected"; then
+    good "edges: as expected"
+else
+    bad edges
+fi
+
+if compile "$top/tests/orders.c" "$build/orders"; then
+    run "$build/orders" "${ORDERS:-20000}" || bad orders
+else
+    bad "orders: not built"
+fi
+
+if compile "$top/tests/damaged.c" "$build/damaged"; then
+    run "$build/damaged" "${DAMAGED:-20000}" || bad damaged
+else
+    bad "damaged: not built"
+fi
+
+judge_samples() {
+    while read -r name _; do
+        pack --property "$top/samples/$name.txt" >"$build/property" || return 1
+        pack --trace "$top/samples/$name.txt" >"$build/trace" || return 1
+        printf '%s ' "$name"
+        run "$build/judge" "$build/property" "$build/trace" </dev/null || return 1
+    done <"$top/tests/samples.expected"
+}
+
+if compile "$top/examples/judge.c" "$build/judge" && judge_samples >"$build/samples.out" &&
+    cmp "$build/samples.out" "$top/tests/samples.expected"; then
+    good "judge: the samples are judged as expected"
+else
+    bad "judge: the example and its samples"
+fi
+
+exit $status

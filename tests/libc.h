@@ -1,0 +1,35 @@
+/*
+ * The few declarations of x86-64 Linux's C library that the C programs here use. The kit's compiler
+ * comes without headers, and the headers of an Arm machine describe another processor: c.sh puts
+ * this file in the place of each standard header where it builds with the kit.
+ */
+#ifndef LIBC_H
+#define LIBC_H
+
+typedef unsigned char uint8_t;
+typedef long int64_t;
+typedef unsigned long uint64_t;
+typedef unsigned long size_t;
+typedef struct _IO_FILE FILE;
+
+#define NULL ((void *)0)
+#define INT64_MIN (-9223372036854775807L - 1)
+
+extern FILE *stderr;
+int printf(const char *format, ...) __attribute__((format(printf, 1, 2)));
+int fprintf(FILE *file, const char *format, ...) __attribute__((format(printf, 2, 3)));
+FILE *fopen(const char *name, const char *mode);
+size_t fread(void *to, size_t size, size_t n, FILE *file);
+int ferror(FILE *file);
+int fclose(FILE *file);
+
+void *realloc(void *old, size_t size);
+void free(void *old);
+void exit(int status) __attribute__((noreturn));
+unsigned long long strtoull(const char *text, char **rest, int base);
+
+void *memset(void *to, int byte, size_t size);
+void *memcpy(void *to, const void *from, size_t size);
+int memcmp(const void *a, const void *b, size_t size);
+
+#endif
