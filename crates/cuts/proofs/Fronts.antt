@@ -11,11 +11,7 @@ use Rattle.meaning.specs.Calls.{is-open}
 use Rattle.meaning.specs.Matcher.{Lengths, moved}
 use Rattle.meaning.specs.Step.{Held, Front, lengths, last-set, closed, appended, swept-one, swept, front-next}
 use Rattle.property.specs.Meant.{first}
-
-pub first-agree : {A : Type 0} (f g : ℕ → A) (n : ℕ) → ((i : ℕ) → i < n → f i ≡ g i) → first f n ≡ first g n
-unfolding first
-first-agree f g zero h = refl
-first-agree f g (suc n) h = ap₂ _∷_ (h zero (omega arith)) (first-agree (λ i. f (suc i)) (λ i. g (suc i)) n (λ i l. h (suc i) (omega arith)))
+use Rattle.property.proofs.Sequence.{first-same}
 
 -- Open input i has the line L i, and cut i the set S i.
 abbrev pub held-by : (ℕ → Line) → (ℕ → Lengths) → ℕ → Held Lengths
@@ -39,14 +35,14 @@ module _ (p : Property) where
   closed-first T L S zero (suc n) h c o =
       ap (λ (b : Bool). cond b (front (S 0) (first (held-by L S) (suc n))) (closed p (lengths p) T (S 1) (first (λ i. held-by L S (suc i)) n))) (o (omega arith))
       ∙ ap (front (S 0))
-      (first-agree (held-by L S) (λ i. held-by L S (0 + i)) (suc n) (λ i l. ap (held-by L S) (sym (zero-add i)))
+      (first-same (held-by L S) (λ i. held-by L S (0 + i)) (suc n) (λ i l. ap (held-by L S) (sym (zero-add i)))
       ∙ ap (first (λ i. held-by L S (0 + i))) (let e : suc n ≡ suc n - 0 = omega arith in e))
   closed-first T L S (suc d) zero h c o = let w : ⊥ = omega arith in absurd w
   closed-first T L S (suc d) (suc n) h c o =
       ap (λ (b : Bool). cond b (front (S 0) (first (held-by L S) (suc n))) (closed p (lengths p) T (S 1) (first (λ i. held-by L S (suc i)) n))) (c zero (omega arith))
       ∙ closed-first T (λ i. L (suc i)) (λ i. S (suc i)) d n (omega arith) (λ i l. c (suc i) (omega arith)) (λ l. o (omega arith))
       ∙ ap (front (S (suc d)))
-      (first-agree (λ i. held-by L S (suc (d + i))) (λ i. held-by L S (suc d + i)) (n - d) (λ i l. ap (held-by L S) (sym (suc-add d i)))
+      (first-same (λ i. held-by L S (suc (d + i))) (λ i. held-by L S (suc d + i)) (n - d) (λ i l. ap (held-by L S) (sym (suc-add d i)))
       ∙ ap (first (λ i. held-by L S (suc d + i))) (let e : n - d ≡ suc n - suc d = omega arith in e))
 
   -- A new input stands behind the others.
@@ -77,7 +73,7 @@ module _ (p : Property) where
   swept-first y s H (suc n) =
       ap (λ (l : List (Held Lengths)). record { line = H 0 .line; after = swept-one p (lengths p) y s (H 0) } ∷ l)
       (swept-first y (swept-one p (lengths p) y s (H 0)) (λ i. H (suc i)) n
-      ∙ first-agree
+      ∙ first-same
       (λ i. record { line = H (suc i) .line; after = swept-set y (swept-one p (lengths p) y s (H 0)) (λ i. H (suc i)) (suc i) })
       (λ i. record { line = H (suc i) .line; after = swept-set y s H (suc (suc i)) })
       n

@@ -24,7 +24,8 @@ use Rattle.matcher.proofs.Masks.{mask-bit, start-mask, none-mask}
 use Rattle.matcher.proofs.Filled.{filled-more, getD-repeat}
 use Rattle.matcher.proofs.Formed.{length-first, getD-first, formed-length}
 use Rattle.cuts.specs.Arrays.{set-at, line-at, held-at, front-of, front-from, front-closed, sets-of, number-of, Stored, Whole, InRange, Clean, Holds, line-of, front-after}
-use Rattle.cuts.proofs.Fronts.{first-agree, closed-first, appended-first, swept-set, swept-first, open-after-output, open-after-input}
+use Rattle.property.proofs.Sequence.{first-same}
+use Rattle.cuts.proofs.Fronts.{closed-first, appended-first, swept-set, swept-first, open-after-output, open-after-input}
 
 -- Closing: the first d have closed at t, and the next one has not.
 pub closes : (p : Property) (held acts masks : List ℕ) (broken : List Bool) (count t d : ℕ) → d ≤ count
@@ -100,7 +101,7 @@ module _ (p : Property) (held acts masks : List ℕ) (broken : List Bool) (held2
         front =
             ap₂ (λ (s : Lengths) (l : List (Held Lengths)). record { before = s; held = l })
             (set-moved 0 (omega arith) ∙ ap (set-at masks broken) (add-zero d))
-            (first-agree (held-at held2 acts2 masks2 broken2) (λ i. held-at held acts masks broken (d + i)) left held-moved)
+            (first-same (held-at held2 acts2 masks2 broken2) (λ i. held-at held acts masks broken (d + i)) left held-moved)
             ∙ sym e;
         whole = record { held-long = held-long; acts-long = acts-long; masks-long = masks-long; broken-long = broken-long };
         in-range =
@@ -302,7 +303,7 @@ module _ (p : Property) (held acts masks₀ : List ℕ) (broken₀ : List Bool) 
         front =
             ap₂ (λ (s : Lengths) (l : List (Held Lengths)). record { before = s; held = l })
             (s .swept 0 (omega arith) ∙ sym new-set-none)
-            (first-agree (held-at held acts masks broken)
+            (first-same (held-at held acts masks broken)
             (λ i. record { line = line-at held acts i; after = new-set p held acts masks₀ broken₀ act t (suc i) })
             count
             (λ i h. ap (λ (x : Lengths). record { line = line-at held acts i; after = x }) (s .swept (suc i) (omega arith)))
