@@ -30,7 +30,7 @@ within b h = ap (λ (t : Bool). cond t 4_096 b) (le-ltb 4_096 b h)
 
 -- A walk that stopped at its budget or at a refusal, followed by a walk over its rest, is the one walk of the two budgets.
 pub chunks : (b₁ b₂ : ℕ) (s : Session) (bytes : List ℕ) → b₁ + b₂ ≤ 4_096 → out-of-range s ≡ false → GoesOn (walk-of s bytes b₁ .stop) b₂
-  → walk-of s bytes (b₁ + b₂) ≡ then (walk-of s bytes b₁) (walk-of (walk-of s bytes b₁ .session) (drop (walk-of s bytes b₁ .read) bytes) b₂)
+    → walk-of s bytes (b₁ + b₂) ≡ then (walk-of s bytes b₁) (walk-of (walk-of s bytes b₁ .session) (drop (walk-of s bytes b₁ .read) bytes) b₂)
 chunks b₁ b₂ s bytes few h g =
     is (b₁ + b₂) few s bytes h
     ∙ two-walks b₁ b₂ s bytes (subst (λ (w : Walked). GoesOn (w .stop) b₂) first g)

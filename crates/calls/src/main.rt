@@ -1,0 +1,47 @@
+// Reads a packed script of calls from standard input and prints what each call gives back (docs/CALLS.md).
+use session::Session;
+
+// What a turn leaves: the bytes of the script that are left, and the session.
+struct After {
+    left: usize,
+    session: Session,
+}
+
+// One call, printed.
+fn turn(script: &[u8], s: Session) -> After {
+    let mut out = [0u8; 8192];
+    let r = console::call(script, s, &mut out);
+    io::write_all(1, console::printed(&out, r.printed));
+    let after = r.session;
+    After {
+        left: r.left,
+        session: after,
+    }
+}
+
+// All calls of the script. Each takes a byte of it or more.
+fn run(script: &[u8]) {
+    let mut s = console::start();
+    let mut left = script.len();
+    let mut turns = script.len();
+    while 0 < turns {
+        let rest = console::last(script, left);
+        if console::over(rest) {
+            return;
+        }
+        let r = turn(rest, s);
+        let after = r.session;
+        s = after;
+        left = r.left;
+        turns -= 1;
+    }
+}
+
+fn main() {
+    let mut script = [0u8; 524288];
+    let n = io::read_full(0, &mut script);
+    run(&script[..n]);
+    if n == 524288 {
+        io::write_all(1, b"cut\n");
+    }
+}

@@ -1,0 +1,1061 @@
+#!/usr/bin/env python3
+"""The fixed script of the console (docs/CALLS.md) and what it must give back.
+
+    tests/calls.py                     crates/calls/stdin is this script, and crates/calls/stdout meets every expectation
+    tests/calls.py --write PROGRAM..   runs the program on the script, checks what it prints, and writes both files if it holds
+
+Each call of the script carries the refusal that document 01's table gives it, written by hand, and verdicts where they
+matter. Verdicts of short runs are also found here by listing every order of the run; packed forms are packed here; held
+stamps, counts, latest stamps and blindness follow document 01's 'Room' and 'Gaps'; masks and broken flags are those of one
+step over cuts and, in short runs, those of the orders listed. A refused call must leave its other numbers 0, and its session
+or buffer as it was."""
+import math
+import os
+import subprocess
+import sys
+
+TOP = os.path.dirname(os.path.dirname(os.path.abspath(__file__)))
+LIMIT = 2 ** 40 - 1
+HUGE = 2 ** 64 - 1
+MOST_LISTED = 5000
+
+# ---- document 01: verdicts by listing all orders
+
+
+def breaks(p, order):
+    n, outs, nums, allowed = p["n"], p["directions"], p["numbers"], p["allowed"]
+    sequence = [(bool(outs[i]), nums[i]) for i in range(n)]
+    acts = [(out, act) for out, act, _ in order]
+    for i in range(len(acts) - n):
+        out, act = acts[i + n]
+        if acts[i:i + n] == sequence and out and not allowed >> act & 1:
+            return True
+    return False
+
+
+def orders(p, ins, outs, moment, so_far):
+    """Orders with moments that never fall, each line's own in its range."""
+    if not ins and not outs:
+        yield so_far
+    if ins:
+        t = ins[0][2]
+        m = t + p["lb"] if moment is None else max(moment, t + p["lb"])
+        if m <= t + p["ub"]:
+            yield from orders(p, ins[1:], outs, m, so_far + [ins[0]])
+    if outs:
+        t = outs[0][2]
+        m = t - p["ub"] if moment is None else max(moment, t - p["ub"])
+        if m <= t - p["lb"]:
+            yield from orders(p, ins, outs[1:], m, so_far + [outs[0]])
+
+
+def listed(p, run):
+    """All explanations of a run, or None where there are too many orders."""
+    ins = [line for line in run if not line[0]]
+    outs = [line for line in run if line[0]]
+    if math.comb(len(run), len(ins)) > MOST_LISTED:
+        return None
+    return list(orders(p, ins, outs, None, []))
+
+
+def listed_verdict(p, run):
+    explanations = listed(p, run)
+    if explanations is None:
+        return None
+    seen = {breaks(p, order) for order in explanations}
+    assert seen
+    return 0 if seen == {False} else 2 if seen == {True} else 1
+
+
+def matched(p, order):
+    """The longest beginning of the sequence that ends here."""
+    sequence = [(bool(p["directions"][i]), p["numbers"][i]) for i in range(p["n"])]
+    acts = [(out, act) for out, act, _ in order]
+    return max(k for k in range(min(p["n"], len(acts)) + 1) if acts[len(acts) - k:] == sequence[:k])
+
+
+def listed_cuts(p, run, count):
+    """Masks and broken flags of the cuts: before the first open input, and behind each, all outputs behind the cut."""
+    explanations = listed(p, run)
+    if explanations is None:
+        return None
+    masks, broken = [0] * 65, [0] * 65
+    for order in explanations:
+        for cut in range(count, -1, -1):
+            ahead = count - cut
+            if ahead and order[len(order) - ahead][0]:
+                break
+            behind = order[:len(order) - ahead]
+            if breaks(p, behind):
+                broken[cut] = 1
+            else:
+                masks[cut] |= 1 << matched(p, behind)
+    return masks, broken
+
+
+# ---- records
+
+
+def prop(sequence, allowed=(1,), lb=10, ub=30, n=None):
+    """?0 and the like; n other than their number is given as it is, and places behind it stay as named."""
+    outs, nums = [0] * 32, [0] * 32
+    for i, act in enumerate(sequence):
+        outs[i], nums[i] = int(act[0] == "!"), int(act[1:])
+    allowed = allowed if isinstance(allowed, int) else sum(1 << k for k in allowed)
+    return {"n": len(sequence) if n is None else n, "directions": outs, "numbers": nums, "allowed": allowed, "lb": lb, "ub": ub}
+
+
+NONE = prop([], (), 0, 0)
+B = prop(["?0"])
+
+
+def session(p=B, count=0, held=(), acts=(), masks=(1,), broken=(), latest=0, blind=0):
+    def full(places, size):
+        return list(places) + [0] * (size - len(places))
+    return {"property": p, "count": count, "held": full(held, 64), "acts": full(acts, 64), "masks": full(masks, 65),
+            "broken": full(broken, 65), "latest": latest, "blind": blind}
+
+
+ZEROS = session(NONE, masks=())
+
+
+def full_house(stamp, p=B, **more):
+    """64 inputs ?0 open at one stamp."""
+    return session(p, 64, [stamp] * 64, [0] * 64, [1] + [2] * 64, latest=stamp, **more)
+
+
+# ---- packed forms of document 01
+
+
+def bits_to_bytes(bits):
+    bits += "0" * (-len(bits) % 8)
+    return int(bits, 2).to_bytes(len(bits) // 8, "big")
+
+
+def packed(p):
+    bits = format(p["n"], "06b") + format(p["lb"], "026b") + format(p["ub"], "026b")
+    for i in range(p["n"]):
+        out, act = (p["directions"][i], p["numbers"][i]) if i < 32 else (0, 0)
+        bits += str(out) + format(act, "06b")
+    return bits_to_bytes(bits + "".join(str(p["allowed"] >> k & 1) for k in range(64)))
+
+
+def rec(kind, action, less):
+    return bytes([kind << 6 | action]) + less.to_bytes(5, "big")
+
+
+END = rec(3, 0, 0)
+
+
+def trace(*lines):
+    """('?0', 100), ('!2', 120), ('gap', 200): records with stamps less the one before."""
+    out, latest = b"", 0
+    for act, stamp in lines:
+        kind = {"?": 0, "!": 1, "g": 2}[act[0]]
+        out += rec(kind, 0 if kind == 2 else int(act[1:]), stamp - latest)
+        latest = stamp
+    return out
+
+
+# ---- the script: each call as bytes, with a function that checks what it printed
+
+CALLS = []
+COUNTS = {}
+REMEMBERED = {}
+LISTED = [0]
+TITLE = ""
+
+
+def title(text):
+    global TITLE
+    TITLE = text
+
+
+def word(v):
+    return v.to_bytes(8, "big")
+
+
+def string(b):
+    return len(b).to_bytes(4, "big") + b
+
+
+def property_bytes(p):
+    return (word(p["n"]) + bytes(p["directions"]) + bytes(p["numbers"]) + word(p["allowed"]) + word(p["lb"]) + word(p["ub"]))
+
+
+def session_bytes(s):
+    return (property_bytes(s["property"]) + word(s["count"]) + b"".join(map(word, s["held"])) + bytes(s["acts"])
+            + b"".join(map(word, s["masks"])) + bytes(s["broken"]) + word(s["latest"]) + bytes([s["blind"]]))
+
+
+def add(name, args, check):
+    CALLS.append((name, name.encode() + args, check, TITLE))
+
+
+class Wrong(Exception):
+    pass
+
+
+def same(what, got, want):
+    if got != want:
+        raise Wrong("%s is %s, expected %s" % (what, got, want))
+
+
+class Console:
+    """What is printed, line by line, and the session and run that stand."""
+
+    def __init__(self, text):
+        self.lines = text.decode().split("\n")
+        self.at = 0
+        self.session = ZEROS
+        self.run = None
+
+    def line(self):
+        self.at += 1
+        return self.lines[self.at - 1].split(" ")
+
+    def answer(self, name):
+        words = self.line()
+        same("the name", words[0], name)
+        return words[1:]
+
+    def numbers(self, name, size=None):
+        words = self.line()
+        same("the name of a line", words[0], name)
+        places = [int(w) for w in words[1:]]
+        if size is None:
+            return places
+        if places and places[-1] == 0 or len(places) > size:
+            raise Wrong("%s does not end at its last place that is not 0" % name)
+        return places + [0] * (size - len(places))
+
+    def property(self):
+        n, allowed, lb, ub = self.numbers("property")
+        return {"n": n, "directions": self.numbers("directions", 32), "numbers": self.numbers("numbers", 32),
+                "allowed": allowed, "lb": lb, "ub": ub}
+
+    def record(self):
+        p = self.property()
+        count, latest, blind = self.numbers("session")
+        return {"property": p, "count": count, "held": self.numbers("held", 64), "acts": self.numbers("acts", 64),
+                "masks": self.numbers("masks", 65), "broken": self.numbers("broken", 65), "latest": latest, "blind": blind}
+
+
+# ---- 'Room' and 'Gaps': the session after a call that is taken, and its answer
+
+
+def moved(p, cut, out, act):
+    """A cut's matched lengths, and whether broken is among them, after one action more. Broken stays broken."""
+    sequence = [(bool(p["directions"][i]), p["numbers"][i]) for i in range(p["n"])]
+    lengths, broken = set(), cut[1]
+    for k in cut[0]:
+        if k == p["n"] and out and not p["allowed"] >> act & 1:
+            broken = 1
+            continue
+        acts = sequence[:k] + [(bool(out), act)]
+        lengths.add(max(m for m in range(min(p["n"], len(acts)) + 1) if acts[len(acts) - m:] == sequence[:m]))
+    return lengths, broken
+
+
+def cuts_of(s):
+    return [({k for k in range(64) if mask >> k & 1}, broken) for mask, broken in zip(s["masks"], s["broken"])][:s["count"] + 1]
+
+
+def with_cuts(s, cuts):
+    s["masks"] = [sum(1 << k for k in lengths) for lengths, _ in cuts] + [0] * (65 - len(cuts))
+    s["broken"] = [broken for _, broken in cuts] + [0] * (65 - len(cuts))
+    return s
+
+
+def standing(s):
+    lengths, broken = cuts_of(s)[-1]
+    return 3 if s["blind"] else 0 if not broken else 1 if lengths else 2
+
+
+def blind_at(p, stamp):
+    return session(p, masks=(), latest=stamp, blind=1)
+
+
+def taken_line(s, out, act, stamp):
+    """The session after a line."""
+    p = s["property"]
+    if s["blind"] and stamp <= s["latest"] + 2 * p["ub"]:
+        return blind_at(p, stamp)
+    if s["blind"]:
+        s = session(p)
+    held = list(zip(s["held"], s["acts"]))[:s["count"]]
+    closed = sum(stamp > at + 2 * p["ub"] for at, _ in held)
+    held, cuts = held[closed:], cuts_of(s)[closed:]
+    if out:
+        after = [moved(p, cuts[0], True, act)]
+        for (at, number), cut in zip(held, cuts[1:]):
+            last = moved(p, after[-1], False, number)
+            here = moved(p, cut, True, act) if stamp - at >= 2 * p["lb"] else (set(), 0)
+            after.append((last[0] | here[0], last[1] | here[1]))
+        cuts = after
+    else:
+        held, cuts = held + [(stamp, act)], cuts + [moved(p, cuts[-1], False, act)]
+    return with_cuts(session(p, len(held), [h[0] for h in held], [h[1] for h in held], latest=stamp), cuts)
+
+
+def run_after(s, run, out, act, stamp):
+    """The lines of the run after a line, None where they are not known."""
+    if s["blind"]:
+        run = [] if stamp > s["latest"] + 2 * s["property"]["ub"] else None
+    return None if run is None else run + [(bool(out), act, stamp)]
+
+
+def check_listed(c):
+    """The session that stands against the orders of its run."""
+    s = c.session
+    cuts = None if c.run is None or s["blind"] else listed_cuts(s["property"], c.run, s["count"])
+    if cuts is not None:
+        LISTED[0] += 1
+        same("the masks, by listing", s["masks"], cuts[0])
+        same("the broken flags, by listing", s["broken"], cuts[1])
+        same("the verdict, by listing", standing(s), listed_verdict(s["property"], c.run))
+
+
+def remember(name):
+    """The session that stands now is the one that stood at the first call of this with the name."""
+    def check(c):
+        same("the session, against '%s'" % name, c.session, REMEMBERED.setdefault(name, c.session))
+    CALLS.append(("", b"", check, TITLE))
+
+
+# ---- calls, each with its refusal, 0 where it is taken
+
+
+def count(name, want):
+    COUNTS[name, want] = COUNTS.get((name, want), 0) + 1
+
+
+def F(p, want=0):
+    def check(c):
+        same("the answer", c.answer("F"), [str(want), "0", "0"])
+        c.session, c.run = c.record(), []
+        same("the session", c.session, ZEROS if want else session(p))
+    count("F", want)
+    add("F", property_bytes(p), check)
+
+
+def V(p, want=0):
+    count("V", want)
+    add("V", property_bytes(p), lambda c: same("the answer", c.answer("V"), [str(want)]))
+
+
+def T(s):
+    def check(c):
+        same("the answer", c.answer("T"), [])
+        c.session, c.run = c.record(), None
+        same("the session", c.session, s)
+    count("T", 0)
+    add("T", session_bytes(s), check)
+
+
+def stepped(c, name, want, verdict, opened, step):
+    """`step` gives the answer's verdict and the session after it."""
+    refusal, got_verdict, got_open = map(int, c.answer(name))
+    before, c.session = c.session, c.record()
+    same("the refusal", refusal, want)
+    if want:
+        same("verdict and number open of a refusal", [got_verdict, got_open], [0, 0])
+        same("the session of a refusal", c.session, before)
+        return
+    found, after = step(before)
+    for field in after:
+        same("the session's " + field, c.session[field], after[field])
+    same("the verdict", got_verdict, found)
+    same("the number open", got_open, after["count"])
+    if verdict is not None:
+        same("the verdict, by hand", got_verdict, verdict)
+    if opened is not None:
+        same("the number open, by hand", got_open, opened)
+    check_listed(c)
+
+
+def L(act, stamp, want=0, verdict=None, opened=None):
+    out, number = int(act[0] == "!"), int(act[1:])
+
+    def check(c):
+        def step(s):
+            c.run = run_after(s, c.run, out, number, stamp)
+            after = taken_line(s, out, number, stamp)
+            return standing(after), after
+        stepped(c, "L", want, verdict, opened, step)
+    count("L", want)
+    add("L", bytes([out, number]) + word(stamp), check)
+
+
+def G(stamp, want=0, verdict=None):
+    def check(c):
+        def step(s):
+            c.run = None
+            return standing(s), blind_at(s["property"], stamp)
+        stepped(c, "G", want, verdict, 0, step)
+    count("G", want)
+    add("G", word(stamp), check)
+
+
+BUDGET, AT_END, REFUSED = 0, 1, 2
+
+
+def rest_words(rest):
+    return [str(len(rest)), hexed(rest[:16])]
+
+
+def hexed(b):
+    return "%d:%s" % (len(b), b.hex())
+
+
+def W(budget, bytes_, taken, stop, refusal=0):
+    read = 6 * taken + (6 if stop == AT_END else 0)
+
+    def check(c):
+        same("the answer", c.answer("W"), [str(taken), str(stop), str(refusal), str(read)] + rest_words(bytes_[read:]))
+        s, c.session = c.session, c.record()
+        for i in range(taken):
+            kind, action = bytes_[6 * i] >> 6, bytes_[6 * i] & 63
+            stamp = s["latest"] + int.from_bytes(bytes_[6 * i + 1:6 * i + 6], "big")
+            if kind == 2:
+                c.run, s = None, blind_at(s["property"], stamp)
+            else:
+                c.run, s = run_after(s, c.run, kind == 1, action, stamp), taken_line(s, kind == 1, action, stamp)
+        for field in s:
+            same("the session's " + field, c.session[field], s[field])
+        check_listed(c)
+    count("W", refusal)
+    add("W", word(budget) + string(bytes_), check)
+
+
+def J(p, t, refusal=0, verdict=0, taken=0):
+    number = 9 * 65536 if taken > 16383 else refusal * 65536 + verdict * 16384 + taken
+    count("J", 9 if taken > 16383 else refusal)
+    add("J", string(p) + string(t), lambda c: same("the answer", c.answer("J"), [str(v) for v in (refusal, verdict, taken, number)]))
+
+
+def P(b, want=0, p=NONE):
+    def check(c):
+        same("the answer", c.answer("P"), [str(want)] + rest_words(b if want else b[len(packed(p)):]))
+        same("the property", c.property(), p)
+    count("P", want)
+    add("P", string(b), check)
+
+
+def Q(p, buffer, want=0):
+    form = b"" if want else packed(p)
+    left = form + buffer[len(form):]
+    count("Q", want)
+    add("Q", property_bytes(p) + string(buffer),
+        lambda c: same("the answer", c.answer("Q"), [str(want), str(len(form)), hexed(left)]))
+
+
+def R(before, b, want=0, kind=0, action=0, stamp=0):
+    count("R", want)
+    add("R", word(before) + string(b),
+        lambda c: same("the answer", c.answer("R"), [str(v) for v in (want, kind, action, stamp)] + rest_words(b if want else b[6:])))
+
+
+def S(kind, action, stamp, before, buffer, want=0):
+    form = b"" if want else rec(kind, action, stamp - before)
+    left = form + buffer[len(form):]
+    count("S", want)
+    add("S", bytes([kind, action]) + word(stamp) + word(before) + string(buffer),
+        lambda c: same("the answer", c.answer("S"), [str(want), hexed(left)]))
+
+
+def marked(n):
+    """A buffer with a byte of its own at each place."""
+    return bytes((7 * i + 161) % 256 for i in range(n))
+
+
+# ---- the script
+
+
+def at_the_start():
+    title("a session of zeros stands at the start")
+    L("?0", 0, 10)
+    G(0, 10)
+    W(0, b"", 0, REFUSED, 10)
+    W(5, END, 0, REFUSED, 10)
+
+
+def properties():
+    title("refusals 1, 2 and 3 of a property")
+    many = ["?%d" % (k % 64) if k % 3 else "!%d" % (63 - k) for k in range(32)]
+    taken = [
+        prop(["?0"]), prop(["!63"]), prop(many[:2]), prop(many[:31]), prop(many), prop(["?0"], 0), prop(["?0"], HUGE),
+        prop(["?0"], (0,)), prop(["?0"], (63,)), prop(["?0"], lb=1, ub=1), prop(["?0"], lb=30), prop(["?0"], ub=60_000_000),
+        prop(["?0"], lb=60_000_000, ub=60_000_000), prop(many[:31] + ["?63"]),
+        # places behind the sequence are not read
+        prop(["?0", "?64", "!255"], n=1), prop(many[:31] + ["!64"], n=31),
+    ]
+    for p in taken:
+        size = (122 + 7 * p["n"] + 7) // 8
+        F(p)
+        V(p)
+        Q(p, marked(size))
+        Q(p, marked(size + 3))
+        Q(p, marked(size - 1), 9)
+        Q(p, b"", 9)
+        kept = prop([], p["allowed"], p["lb"], p["ub"], p["n"])
+        kept["directions"] = p["directions"][:p["n"]] + [0] * (32 - p["n"])
+        kept["numbers"] = p["numbers"][:p["n"]] + [0] * (32 - p["n"])
+        P(packed(p), 0, kept)
+        P(packed(p) + marked(5), 0, kept)
+        P(packed(p)[:-1], 7)
+    refused = [
+        (prop([]), 1), (prop(many, n=33), 1), (prop(many, n=63), 1), (prop(many, n=HUGE), 1),
+        (prop(["?0"], lb=0), 2), (prop(["?0"], lb=31), 2), (prop(["?0"], lb=30, ub=29), 2), (prop(["?0"], ub=60_000_001), 2),
+        (prop(["?0"], lb=60_000_001, ub=60_000_001), 2), (prop(["?0"], lb=HUGE, ub=HUGE), 2), (prop(["?0"], lb=0, ub=0), 2),
+        (prop(["?64"]), 3), (prop(["!64"]), 3), (prop(["?255"]), 3), (prop(many[:31] + ["?64"]), 3), (prop(["?0", "?64"]), 3),
+        # two that hold together: 1 before 2 before 3
+        (prop([], lb=0), 1), (prop(many, n=33, ub=60_000_001), 1), (prop(["?64"], n=33), 1), (prop(["?64"], n=0), 1),
+        (prop(["?64"], lb=0), 2), (prop(["?64"], ub=60_000_001), 2), (prop(["?64"], lb=0, n=33), 1),
+    ]
+    for p, want in refused:
+        F(p, want)
+        V(p, want)
+        # before 9
+        Q(p, marked(46), want)
+        Q(p, b"", want)
+    title("what a refused fresh call gives back is no session")
+    L("?0", 0, 10)
+
+
+def cases():
+    title("document 01, cases 1 to 13")
+    F(B)
+    G(0, verdict=0)
+    runs = [
+        ([("?0", 100, 0), ("!2", 119, 0)]),
+        ([("?0", 100, 0), ("!2", 120, 1)]),
+        ([("?0", 100, 0), ("!2", 160, 1)]),
+        ([("?0", 100, 0), ("!2", 161, 2)]),
+        ([("?0", 100, 0), ("!2", 100, 0)]),
+        ([("!2", 100, 0), ("?0", 100, 0)]),
+        ([("?0", 100, 0), ("!1", 161, 0)]),
+        ([("?0", 100, 0), ("?1", 101, 0), ("!2", 161, 1)]),
+        ([("?0", 100, 0), ("?1", 100, 0), ("!2", 161, 0)]),
+        ([("?0", 100, 0), ("!1", 130, 0), ("!2", 161, 1)]),
+        ([("?0", 100, 0), ("!2", 120, 1), ("!2", 161, 2)]),
+    ]
+    for i, run in enumerate(runs):
+        F(B)
+        for act, stamp, verdict in run:
+            L(act, stamp, 0, verdict)
+        remember("run %d" % i)
+        G(run[-1][1], 0, run[-1][2])
+        F(B)
+        W(len(run), trace(*[(act, stamp) for act, stamp, _ in run]) + END, len(run), BUDGET)
+        remember("run %d" % i)
+        J(packed(B), trace(*[(act, stamp) for act, stamp, _ in run]) + END, 0, run[-1][2], len(run))
+    title("document 01, case 12")
+    F(B)
+    L("?0", 100, 0, 0, 1)
+    G(200, 0, 0)
+    L("!2", 260, 0, 3, 0)
+    L("!2", 320, 0, 3, 0)
+    L("?0", 381, 0, 0, 1)
+    L("!2", 442, 0, 2, 0)
+    remember("case 12")
+    F(B)
+    t = trace(("?0", 100), ("gap", 200), ("!2", 260), ("!2", 320), ("?0", 381), ("!2", 442))
+    W(4096, t + END + b"\1", 6, AT_END)
+    remember("case 12")
+    J(packed(B), t + END, 0, 2, 6)
+    title("document 01, case 13")
+    F(prop(["?0", "?0"], ()))
+    for act, stamp, verdict in (("?0", 100, 0), ("?0", 101, 0), ("?0", 102, 0), ("!5", 170, 2)):
+        L(act, stamp, 0, verdict)
+    title("outputs in the sequence, and a fall back")
+    F(prop(["?0", "!1", "?0"], (1,), 1, 2))
+    for act, stamp in (("?0", 10), ("!1", 13), ("?0", 14), ("!1", 18), ("?0", 22), ("!2", 25), ("!1", 30), ("!3", 31)):
+        L(act, stamp)
+
+
+def drawn():
+    """Short runs by a fixed draw, their verdicts, masks and broken flags found by listing."""
+    state = [20240601]
+
+    def draw(n):
+        state[0] = (state[0] * 6364136223846793005 + 1442695040888963407) % 2 ** 64
+        return (state[0] >> 33) % n
+    for k in range(30):
+        title("drawn run %d" % k)
+        lb = 1 + draw(6)
+        F(prop([("?%d" if draw(2) else "!%d") % draw(2) for _ in range(1 + draw(3))], draw(4), lb, lb + draw(8)))
+        stamp = 0
+        for _ in range(4 + draw(5)):
+            stamp += draw(2) * draw(14)
+            L(("?%d" if draw(2) else "!%d") % draw(3 if draw(3) else 2), stamp)
+        G(stamp + draw(3))
+
+
+def lines():
+    title("refusals 3, 4 and 5 of a line")
+    F(B)
+    L("?63", 0, 0, 0, 1)
+    L("?64", 0, 3)
+    L("!64", 0, 3)
+    L("!63", 0)
+    L("?255", 5, 3)
+    L("?0", 100, 0)
+    L("!1", 99, 5)
+    L("?1", 99, 5)
+    L("?1", 0, 5)
+    L("!0", 100)
+    L("?1", 101)
+    L("?1", LIMIT + 1, 4)
+    L("!1", LIMIT + 1, 4)
+    L("!1", HUGE, 4)
+    L("?64", LIMIT + 1, 3)
+    L("?64", 100, 3)
+    L("!255", HUGE, 3)
+    L("!1", LIMIT)
+    L("?0", LIMIT, 0, None, 1)
+    L("?0", LIMIT + 1, 4)
+    L("?0", LIMIT - 1, 5)
+    title("refusals 4 and 5 of a mark")
+    G(LIMIT - 1, 5)
+    G(LIMIT + 1, 4)
+    G(HUGE, 4)
+    G(LIMIT, 0)
+    G(LIMIT, 0, 3)
+    G(LIMIT - 1, 5)
+    G(LIMIT + 1, 4)
+    title("while blind")
+    F(B)
+    L("?0", 100)
+    G(99, 5)
+    G(100, 0, 0)
+    L("?64", 100, 3)
+    L("?64", 99, 3)
+    L("?0", 99, 5)
+    L("?0", LIMIT + 1, 4)
+    L("?0", 100, 0, 3, 0)
+    L("?0", 160, 0, 3, 0)
+    L("!5", 220, 0, 3, 0)
+    G(219, 5)
+    G(230, 0, 3)
+    L("!5", 290, 0, 3, 0)
+    L("!5", 351, 0, 0, 0)
+    L("?0", 351, 0, 0, 1)
+    G(352, 0, 0)
+    L("?0", 413, 0, 0, 1)
+    title("a long quiet without a mark starts no new run")
+    F(prop(["?0"], (1,)))
+    L("?0", 0, 0, 0)
+    L("!2", 1_000_000, 0, 2)
+    L("!1", LIMIT, 0, 2)
+    title("bounds of one")
+    F(prop(["?0"], (), 1, 1))
+    L("?0", 10, 0, 0, 1)
+    L("!1", 11, 0, 0, 1)
+    L("!1", 12, 0, 1, 1)
+    L("!1", 13, 0, 2, 0)
+
+
+def room():
+    title("refusal 6, at 2 UB and behind it")
+    F(B)
+    W(63, trace(*[("?0", 0)] * 63), 63, BUDGET)
+    L("?0", 0, 0, None, 64)
+    L("?0", 0, 6)
+    L("!1", 0, 0, None, 64)
+    L("?0", 60, 6)
+    L("?64", 60, 3)
+    L("?63", 60, 6)
+    L("!1", 60, 0, None, 64)
+    L("?0", 60, 6)
+    L("?0", 59, 5)
+    L("?64", 59, 3)
+    L("?0", 61, 0, None, 1)
+    title("refusal 6, where one of 64 closes")
+    F(B)
+    W(4096, trace(("?0", 0), *[("?1", 1)] * 63) + END, 64, AT_END)
+    L("?2", 60, 6)
+    L("?2", 61, 0, None, 64)
+    L("?2", 61, 6)
+    L("?2", 62, 0, None, 2)
+    title("refusal 6 is never given while blind")
+    F(B)
+    W(64, trace(*[("?0", 7)] * 64), 64, BUDGET)
+    L("?0", 7, 6)
+    G(7, 0)
+    for _ in range(2):
+        L("?0", 7, 0, 3, 0)
+    title("4 before 6, 3 before both")
+    T(full_house(LIMIT))
+    L("?0", LIMIT + 1, 4)
+    L("?64", LIMIT + 1, 3)
+    L("?0", LIMIT - 1, 5)
+    L("?0", LIMIT, 6)
+    L("?64", LIMIT, 3)
+    L("!0", LIMIT, 0, None, 64)
+    title("the widest bounds")
+    wide = prop(["?0"], (), 60_000_000, 60_000_000)
+    T(full_house(LIMIT - 120_000_000, wide))
+    L("?0", LIMIT, 6)
+    T(full_house(LIMIT - 120_000_001, wide))
+    L("?0", LIMIT, 0, None, 1)
+    title("refusal 6 in a walk and in the judge")
+    F(B)
+    full = trace(*[("?0", 0)] * 64)
+    W(4096, full + trace(("?0", 60)) + END, 64, REFUSED, 6)
+    F(B)
+    W(4096, full + trace(("?0", 61)) + END, 65, AT_END)
+    F(B)
+    W(64, full + trace(("?0", 60)) + END, 64, BUDGET)
+    J(packed(B), full + trace(("?0", 60)) + END, 6)
+    J(packed(B), full + trace(("?0", 61)) + END, 0, 0, 65)
+
+
+def records_of_no_calls():
+    two = prop(["?0", "!1"], (1,))
+    longest = prop(["?0"] * 32)
+    base = dict(count=2, held=[90, 100], acts=[0, 1], masks=[1, 3, 7], latest=100)
+    fit = [
+        ("the plain one", session(two, **base)),
+        ("length 1", session(B, latest=100)),
+        ("length 32", session(longest, masks=[2 ** 33 - 1], latest=100)),
+        ("LB 1 and UB 60,000,000", session(prop(["?0"], lb=1, ub=60_000_000), latest=100)),
+        ("LB is UB", session(prop(["?0"], lb=30), latest=100)),
+        ("number 63", session(prop(["?63"]), latest=100)),
+        ("number 64 behind the sequence", session(prop(["?0", "?64"], n=1), latest=100)),
+        ("63 held stamps", session(two, 63, [100] * 63, [0] * 63, [1] * 64, latest=100)),
+        ("held stamps equal", session(two, **{**base, "held": [100, 100]})),
+        ("held at the latest", session(two, **{**base, "held": [0, 100]})),
+        ("unused held stamps out of order", session(two, **{**base, "held": [90, 100, 500, 3]})),
+        ("latest at the limit", session(B, latest=LIMIT - 1)),
+        ("a matched length of the sequence's", session(two, **{**base, "masks": [4, 4, 4]})),
+        ("a longer one in an unused mask", session(two, **{**base, "masks": [1, 1, 1, 8, HUGE]})),
+        ("blind, with nothing held", session(two, masks=(), latest=100, blind=1)),
+        ("blind, a longer one in a mask", session(two, masks=[HUGE, 8], latest=100, blind=1)),
+        ("a held action above 63", session(two, **{**base, "acts": [255, 64]})),
+        ("no matched length at all", session(two, **{**base, "masks": [0, 0, 0]})),
+        ("all broken", session(two, **base, broken=[1] * 65)),
+        ("held stamps closed at the latest", session(two, **{**base, "held": [0, 1]})),
+    ]
+    for name, s in fit:
+        title("a session record in range: " + name)
+        T(s)
+        L("?64", s["latest"], 3)
+        L("?0", s["latest"] + 1)
+        G(s["latest"] + 1)
+        T(s)
+        G(s["latest"])
+        T(s)
+        W(3, rec(0, 1, 1) + rec(1, 1, 0) + END, 2, AT_END)
+    title("a session record in range: 64 held stamps")
+    T(full_house(100))
+    L("?0", 100, 6)
+    L("!0", 100, 0, None, 64)
+    title("a session record in range: latest 2^40 - 1")
+    T(session(B, latest=LIMIT))
+    L("!0", LIMIT)
+    W(1, rec(1, 0, 1), 0, REFUSED, 4)
+    unfit = [
+        ("length 0", session(prop([]), latest=100)),
+        ("length 33", session(prop(["?0"] * 32, n=33), latest=100)),
+        ("LB 0", session(prop(["?0"], lb=0), latest=100)),
+        ("LB above UB", session(prop(["?0"], lb=31), latest=100)),
+        ("UB 60,000,001", session(prop(["?0"], ub=60_000_001), latest=100)),
+        ("number 64", session(prop(["?64"]), latest=100)),
+        ("number 64 at the last place", session(prop(["?0"] * 31 + ["!64"]), latest=100)),
+        ("65 held stamps", session(two, 65, [100] * 64, [0] * 64, [1] * 65, latest=100)),
+        ("very many held stamps", session(two, HUGE, latest=100)),
+        ("held stamps out of order", session(two, **{**base, "held": [91, 90]})),
+        ("the last two out of order", session(two, 64, [50] * 62 + [60, 59], [0] * 64, [1] * 65, latest=100)),
+        ("held past the latest", session(two, **{**base, "held": [90, 101]})),
+        ("a held stamp while blind", session(two, **base, blind=1)),
+        ("latest 2^40", session(B, latest=LIMIT + 1)),
+        ("latest 2^64 - 1", session(B, latest=HUGE)),
+        ("latest 2^40 while blind", session(B, masks=(), latest=LIMIT + 1, blind=1)),
+        ("a matched length above, before all", session(two, **{**base, "masks": [8, 1, 1]})),
+        ("a matched length above, after all", session(two, **{**base, "masks": [1, 1, 8]})),
+        ("the highest bit of a mask", session(longest, masks=[2 ** 63], latest=100)),
+        ("length 33 matched of 32", session(longest, masks=[2 ** 33], latest=100)),
+    ]
+    for name, s in unfit:
+        title("refusal 10: " + name)
+        T(s)
+        L("?0", min(s["latest"], LIMIT), 10)
+        G(min(s["latest"], LIMIT), 10)
+        W(0, b"", 0, REFUSED, 10)
+        W(1, END, 0, REFUSED, 10)
+    title("10 before 3, 4, 5 and 6 of a line, 4 and 5 of a mark, 7, 8 and 4 of a walk")
+    T(full_house(100, prop(["?0"], lb=0)))
+    L("?64", 100, 10)
+    L("?0", LIMIT + 1, 10)
+    L("?0", 99, 10)
+    L("?0", 100, 10)
+    G(LIMIT + 1, 10)
+    G(99, 10)
+    W(1, b"", 0, REFUSED, 10)
+    W(1, rec(2, 1, 0), 0, REFUSED, 10)
+    W(1, rec(0, 0, LIMIT), 0, REFUSED, 10)
+    W(HUGE, rec(0, 0, 0), 0, REFUSED, 10)
+
+
+def walks():
+    title("the budget of a walk")
+    t = trace(("?0", 100), ("!2", 120), ("gap", 161))
+    for budget, taken, stop in ((0, 0, BUDGET), (1, 1, BUDGET), (2, 2, BUDGET), (3, 3, BUDGET), (4, 3, AT_END), (HUGE, 3, AT_END)):
+        F(B)
+        W(budget, t + END + marked(9), taken, stop)
+    title("a walk in parts is the walk of the whole")
+    F(B)
+    W(1, t + END, 1, BUDGET)
+    W(1, rec(1, 2, 20) + rec(2, 0, 41) + END, 1, BUDGET)
+    W(5, rec(2, 0, 41) + END, 1, AT_END)
+    remember("parts")
+    F(B)
+    W(5, t + END, 3, AT_END)
+    remember("parts")
+    F(B)
+    L("?0", 100, 0, 0)
+    L("!2", 120, 0, 1)
+    G(161, 0, 1)
+    remember("parts")
+    title("with budget 0 left nothing more is read")
+    F(B)
+    W(0, b"\1\2", 0, BUDGET)
+    W(1, rec(1, 0, 0) + rec(2, 1, 0), 1, BUDGET)
+    W(1, rec(1, 0, 0) + b"\0", 1, BUDGET)
+    title("at most 4,096 records")
+    F(B)
+    W(HUGE, rec(2, 0, 0) * 4098, 4096, BUDGET)
+    F(B)
+    W(4096, rec(2, 0, 1) * 4096, 4096, BUDGET)
+    title("7 in a walk: bytes that run out")
+    F(B)
+    W(4, t, 3, REFUSED, 7)
+    F(B)
+    W(3, t, 3, BUDGET)
+    W(1, b"", 0, REFUSED, 7)
+    W(1, END[:5], 0, REFUSED, 7)
+    W(1, END, 0, AT_END)
+    F(B)
+    W(4, t[:-1], 2, REFUSED, 7)
+    title("8 in a walk")
+    for bad in (rec(2, 1, 0), rec(2, 63, 5), rec(3, 1, 0), rec(3, 0, 1)):
+        F(B)
+        W(4, trace(("?0", 5)) + bad + END, 1, REFUSED, 8)
+        J(packed(B), trace(("?0", 5)) + bad + END, 8)
+        J(packed(B), bad, 8)
+    title("4 in a walk: each field is added to the session's latest stamp")
+    F(B)
+    W(4, rec(0, 0, LIMIT) + rec(1, 0, 0) + rec(1, 0, 1) + END, 2, REFUSED, 4)
+    F(B)
+    L("!0", 1)
+    W(4, rec(0, 0, LIMIT) + END, 0, REFUSED, 4)
+    W(4, rec(0, 0, LIMIT - 1) + END, 1, AT_END)
+    W(4, rec(2, 0, 1) + END, 0, REFUSED, 4)
+    W(4, rec(2, 0, 0) + END, 1, AT_END)
+    title("8 before 4, 7 before both in a walk")
+    W(4, rec(2, 1, 1), 0, REFUSED, 8)
+    W(4, rec(3, 0, 1), 0, REFUSED, 8)
+    W(4, rec(2, 1, 1)[:5], 0, REFUSED, 7)
+
+
+def record_reader():
+    title("the record reader")
+    for kind, action in ((0, 0), (0, 63), (1, 0), (1, 63), (1, 5), (2, 0), (3, 0)):
+        for before, less in ((0, 0), (100, 41), (0, LIMIT), (LIMIT, 0), (1, LIMIT - 1)):
+            if kind == 3 and less:
+                continue
+            b = rec(kind, action, less)
+            R(before, b, 0, kind, action, before + less)
+            R(before, b + marked(20), 0, kind, action, before + less)
+            R(before, b[:5], 7)
+    R(0, b"", 7)
+    title("8 of the record reader")
+    for b in (rec(2, 1, 0), rec(2, 32, 9), rec(3, 1, 0), rec(3, 63, 0), rec(3, 0, 1), rec(3, 0, 2 ** 39), rec(3, 1, 1)):
+        R(7, b, 8)
+        R(7, b + marked(3), 8)
+    title("4 of the record reader")
+    for kind in (0, 1, 2):
+        R(1, rec(kind, 0, LIMIT), 4)
+        R(LIMIT, rec(kind, 0, 1), 4)
+        R(LIMIT + 1, rec(kind, 0, 0) + marked(3), 4)
+        R(HUGE, rec(kind, 0, LIMIT), 4)
+    R(LIMIT, END, 0, 3, 0, LIMIT)
+    R(LIMIT + 1, END, 4)
+    title("7 before 8 and 4, 8 before 4")
+    R(LIMIT + 1, rec(0, 0, 0)[:5], 7)
+    R(0, rec(2, 1, 0)[:5], 7)
+    R(LIMIT, rec(2, 1, 1), 8)
+    R(LIMIT + 1, rec(2, 1, 0), 8)
+    R(LIMIT + 1, rec(3, 1, 0), 8)
+    R(LIMIT + 1, rec(3, 0, 1), 8)
+
+
+def record_writer():
+    title("the record writer")
+    for kind, action in ((0, 0), (0, 63), (1, 0), (1, 63), (2, 0), (3, 0)):
+        for stamp, before in ((0, 0), (141, 100), (100, 100), (LIMIT, 0), (LIMIT, LIMIT), (LIMIT, 1)):
+            if kind == 3 and stamp != before:
+                continue
+            S(kind, action, stamp, before, marked(6))
+            S(kind, action, stamp, before, marked(9))
+            S(kind, action, stamp, before, marked(5), 9)
+            S(kind, action, stamp, before, b"", 9)
+    title("8 of the record writer: kind, gap, end")
+    for kind, action, stamp, before in (
+            (4, 0, 0, 0), (5, 0, 0, 0), (255, 0, 0, 0), (2, 1, 0, 0), (2, 63, 5, 0), (3, 1, 0, 0), (3, 0, 1, 0), (3, 0, 0, 1),
+            (3, 0, 100, 99),
+            # before 3
+            (4, 64, 0, 0), (2, 64, 0, 0), (3, 64, 0, 0),
+            # before 4
+            (4, 0, LIMIT + 1, 0), (4, 0, 0, LIMIT + 1), (2, 1, LIMIT + 1, 0), (3, 1, LIMIT + 1, LIMIT + 1), (3, 0, LIMIT + 1, LIMIT),
+            # before 5
+            (4, 0, 5, 6), (2, 1, 5, 6), (3, 0, 5, 6)):
+        S(kind, action, stamp, before, marked(8), 8)
+        S(kind, action, stamp, before, marked(5), 8)
+    title("3 of the record writer")
+    for kind in (0, 1):
+        S(kind, 64, 5, 5, marked(7), 3)
+        S(kind, 255, 5, 5, marked(5), 3)
+        S(kind, 64, LIMIT + 1, 5, marked(7), 3)
+        S(kind, 64, 5, LIMIT + 1, marked(7), 3)
+        S(kind, 64, 4, 5, marked(7), 3)
+    title("4 of the record writer")
+    for kind in (0, 1, 2):
+        S(kind, 0, LIMIT + 1, 0, marked(7), 4)
+        S(kind, 0, LIMIT + 1, LIMIT + 1, marked(7), 4)
+        S(kind, 0, 0, LIMIT + 1, marked(7), 4)
+        S(kind, 0, LIMIT + 1, HUGE, marked(7), 4)
+        S(kind, 0, HUGE, LIMIT, marked(5), 4)
+    S(3, 0, LIMIT + 1, LIMIT + 1, marked(7), 4)
+    S(3, 0, LIMIT + 1, LIMIT + 1, marked(5), 4)
+    title("5 of the record writer")
+    for kind in (0, 1, 2):
+        S(kind, 0, 99, 100, marked(7), 5)
+        S(kind, 0, 0, LIMIT, marked(7), 5)
+        S(kind, 0, 99, 100, marked(5), 5)
+
+
+def property_reader():
+    title("bytes of the property reader, for each of 64 lengths")
+    P(b"", 7)
+    for n in range(64):
+        b = packed(prop(["?%d" % (k % 64) for k in range(min(n, 32))], (3,), n=n))
+        P(b[:-1], 7)
+        P(b[:1], 7)
+        if n < 1 or n > 32:
+            P(b, 1)
+            P(b + b"\xff", 1)
+    title("pad bits of the property reader")
+    for n in (0, 1, 3, 10, 31, 32, 33, 63):
+        p = prop(["!%d" % (k % 64) for k in range(min(n, 32))], n=n)
+        b = packed(p)
+        for bit in range(-(122 + 7 * n) % 8):
+            P(b[:-1] + bytes([b[-1] | 1 << bit]), 8)
+        P(b, 0 if 1 <= n <= 32 else 1, p if 1 <= n <= 32 else NONE)
+    title("2 of the property reader")
+    for lb, ub in ((0, 30), (0, 0), (31, 30), (10, 60_000_001), (2 ** 26 - 1, 2 ** 26 - 1)):
+        P(packed(prop(["?0"], lb=lb, ub=ub)), 2)
+        P(packed(prop(["?0"] * 32, lb=lb, ub=ub)) + b"\0", 2)
+    title("7 before 8, 1 and 2; 8 before 1 and 2; 1 before 2")
+    P(packed(prop(["?0"], lb=0))[:-1], 7)
+    P(packed(prop(["?0"] * 32, n=33))[:-1], 7)
+    P(packed(prop([], lb=0)), 1)
+    P(packed(prop(["?0"] * 32, n=33, lb=0)), 1)
+    for p in (prop(["?0"], lb=0), prop([]), prop(["?0"] * 32, n=33), prop([], lb=31)):
+        b = packed(p)
+        P(b[:-1] + bytes([b[-1] | 1]), 8)
+    P(b"\xff" * 70, 7)
+    P(b"\xff" * 71, 8)
+
+
+def judge():
+    title("the judge: the property first")
+    b = packed(B)
+    run = trace(("?0", 100), ("!2", 161))
+    padded = b[:-1] + bytes([b[-1] | 1])
+    J(b, END, 0, 0, 0)
+    J(b, run + END, 0, 2, 2)
+    J(b, run + trace(("gap", 0)) + END, 0, 3, 3)
+    for bad, want in ((b"", 7), (b[:-1], 7), (padded, 8), (packed(prop([])), 1), (packed(prop(["?0"] * 32, n=33)), 1),
+                      (packed(prop(["?0"], lb=0)), 2), (packed(prop(["?0"], ub=60_000_001)), 2), (b + b"\0", 8)):
+        J(bad, run + END, want)
+        J(bad, b"", want)
+        J(bad, rec(2, 1, 0), want)
+        J(bad, run + END + b"\0", want)
+    title("a property refused, with bytes behind it")
+    J(packed(prop([])) + b"\0", END, 1)
+    J(packed(prop(["?0"], lb=0)) + b"\0", END, 2)
+    title("the judge: the trace")
+    J(b, b"", 7)
+    J(b, run, 7)
+    J(b, run + END[:5], 7)
+    J(b, run + END + b"\0", 8)
+    J(b, END + END, 8)
+    J(b, run + rec(3, 0, 1), 8)
+    J(b, rec(0, 0, LIMIT) + rec(1, 0, 1) + END, 4)
+    J(b, rec(0, 0, LIMIT) + rec(1, 1, 0) + END, 0, 0, 2)
+    title("the judge: the first refusal met")
+    J(b, rec(0, 0, LIMIT) + rec(1, 0, 1), 4)
+    J(b, rec(0, 0, LIMIT) + rec(2, 1, 1) + END + b"\0", 8)
+    J(b, rec(1, 0, 1) + rec(0, 0, LIMIT) + rec(2, 1, 0), 4)
+    title("refusal 9 of the one number, behind 16,383 records")
+    J(b, rec(2, 0, 0) * 16383 + END, 0, 3, 16383)
+    J(b, rec(2, 0, 0) * 16384 + END, 0, 3, 16384)
+
+
+def build():
+    for part in (at_the_start, properties, cases, drawn, lines, room, records_of_no_calls, walks, record_reader, record_writer,
+                 property_reader, judge):
+        part()
+
+
+def check(text):
+    c = Console(text)
+    wrong = 0
+    for number, (name, _, checker, what) in enumerate(CALLS):
+        at = c.at
+        try:
+            checker(c)
+        except (Wrong, ValueError, IndexError) as error:
+            wrong += 1
+            print("calls: FAILED: call %d, %s, '%s', at line %d: %s" % (number + 1, name or "remember", what, at + 1, error))
+            if wrong == 10 or not isinstance(error, Wrong):
+                return False
+            # to the next answer
+            letters = set("FLGWJPQRSVT?")
+            while c.at < len(c.lines) and c.lines[c.at][:2].strip() not in letters:
+                c.at += 1
+    if c.lines[c.at:] != [""]:
+        print("calls: FAILED: printed behind the last answer: %s" % c.lines[c.at:c.at + 3])
+        return False
+    return wrong == 0
+
+
+def main():
+    build()
+    script = b"".join(call[1] for call in CALLS) + b"\0"
+    stdin, stdout = (os.path.join(TOP, "crates/calls", part) for part in ("stdin", "stdout"))
+    if sys.argv[1:2] == ["--write"]:
+        run = subprocess.run(sys.argv[2:], input=script, stdout=subprocess.PIPE, check=True)
+        if not check(run.stdout):
+            sys.exit(1)
+        for path, data in ((stdin, script), (stdout, run.stdout)):
+            with open(path, "wb") as out:
+                out.write(data)
+    else:
+        with open(stdin, "rb") as given:
+            if given.read() != script:
+                sys.exit("calls: FAILED: crates/calls/stdin is not the script")
+        with open(stdout, "rb") as given:
+            if not check(given.read()):
+                sys.exit(1)
+    calls = [call for call in CALLS if call[0]]
+    print("calls: %d calls in %d bytes answered as expected:" % (len(calls), len(script)))
+    for name in "FLGWJPQRSVT":
+        print("  %s %s" % (name, ", ".join("%s %d" % ("taken" if want == 0 else "refusal %d" % want, n)
+                                           for (of, want), n in sorted(kv for kv in COUNTS.items() if kv[0][0] == name))))
+    print("  sessions held against all orders of their run: %d" % LISTED[0])
+
+
+main()
