@@ -14,22 +14,10 @@ use Rattle.meaning.specs.Numbers.{given, first-of, action-above}
 use Rattle.meaning.specs.Calls.{is-open, open-at, Call, Watch, fresh, beyond, with-line, with-mark, stamp-refusal, line-refusal, refusal, taken, unless-refused, next, watched, Standing, open-of, Answer, refused, Told, TakenAnswer, AnswerBy, IsAnswer}
 use Rattle.meaning.specs.Step.{Sets, Held, Front, Cuts, last-set, closed, appended, swept, front-next, front-with, fresh-front, no-front, fresh-cuts, verdict-of, front-verdict, cuts-verdict, cuts-open, cuts-with-line, cuts-with-mark, cuts-line-refusal, cuts-refusal, cuts-taken, cuts-next, told, cuts-told, cuts-answer, cuts-after}
 use Rattle.meaning.proofs.Pairs.{Bounds}
+use Rattle.meaning.proofs.Refusals.{first-of-none, first-of-later, given-none}
 use Rattle.meaning.proofs.Facts.{verdict-unique}
 use Rattle.meaning.proofs.Sets.{Matcher, along, SetLaws}
 use Rattle.meaning.proofs.Exact.{Fits, fresh-fits, front-fits, held-is-open, front-verdict-exact}
-
--- the first refusal decides, and where it is not given the later one
-first-of-later : (x : ℕ) {y z : ℕ} → (x ≡ 0 → y ≡ z) → first-of x y ≡ first-of x z
-first-of-later zero h = h refl
-first-of-later (suc x) h = refl
-
-pub first-of-none : (x : ℕ) {y : ℕ} → first-of x y ≡ 0 → (x ≡ 0) × (y ≡ 0)
-first-of-none zero e = (refl, e)
-first-of-none (suc x) e = let z : ⊥ = omega arith in absurd z
-
-pub given-none : (n : ℕ) (t : Bool) → given (suc n) t ≡ 0 → t ≡ false
-given-none n true e = let z : ⊥ = omega arith in absurd z
-given-none n false e = refl
 
 not-below : (m n : ℕ) → ltb m n ≡ false → n ≤ m
 not-below m n e = nltb→le m n (subst (λ (t : Bool). T (not t)) (sym e) tt)

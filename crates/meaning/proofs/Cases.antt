@@ -19,7 +19,8 @@ use Rattle.meaning.proofs.Tests.{so, both, eqb-eq}
 use Rattle.meaning.proofs.Facts.{verdict-unique}
 use Rattle.meaning.proofs.Matching.{state-matcher, matcher-reads}
 use Rattle.meaning.proofs.Lengths.{length-laws}
-use Rattle.meaning.proofs.Calls.{first-of-none, given-none, fresh-agrees, after-agrees, standing-agrees}
+use Rattle.meaning.proofs.Refusals.{first-of-none, given-none}
+use Rattle.meaning.proofs.Calls.{fresh-agrees, after-agrees, standing-agrees}
 
 -- a property that no refusal names has bounds as the theorems want them
 pub good-bounds : (p : Property) → property-refusal p ≡ 0 → Bounds p

@@ -16,7 +16,8 @@ use Rattle.meaning.proofs.Lists.{All, done, also, all-append, all-map, 
 use Rattle.meaning.proofs.Pairs.{Bounds}
 use Rattle.meaning.proofs.Tests.{lt-ltb, ge-ltb}
 use Rattle.meaning.proofs.Channels.{from-right}
-use Rattle.meaning.proofs.Calls.{first-of-none, not-refused-stamp}
+use Rattle.meaning.proofs.Refusals.{first-of-none}
+use Rattle.meaning.proofs.Calls.{not-refused-stamp}
 use Rattle.meaning.proofs.Boundary.{Early, Late, whole-verdict}
 
 abbrev blind-watch : ℕ → Watch

@@ -1,4 +1,5 @@
 pub mod Whole
+pub mod Refusals
 pub mod Lists
 pub mod Pairs
 pub mod Channels

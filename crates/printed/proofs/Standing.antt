@@ -10,7 +10,7 @@ use Rattle.meaning.specs.Calls.{Call, unless-refused}
 use Rattle.meaning.specs.Calls
 use Rattle.meaning.specs.Matcher.{Lengths}
 use Rattle.meaning.specs.Step.{Cuts, lengths, cuts-verdict, cuts-refusal, cuts-taken, cuts-told}
-use Rattle.meaning.proofs.Calls.{first-of-none}
+use Rattle.meaning.proofs.Refusals.{first-of-none}
 use Rattle.property.specs.Meant.{meant}
 use Rattle.property.specs.declared.Property.{Property}
 use Rattle.session.specs.declared.Session.{Session}

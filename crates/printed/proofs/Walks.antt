@@ -12,7 +12,7 @@ use Rattle.meaning.specs.Numbers.{given, property-refusal}
 use Rattle.meaning.specs.Step.{lengths, fresh-cuts, told}
 use Rattle.meaning.specs.Node.{Verdict}
 use Rattle.meaning.specs.Calls
-use Rattle.meaning.proofs.Calls.{first-of-none}
+use Rattle.meaning.proofs.Refusals.{first-of-none}
 use Rattle.property.specs.Meant.{meant}
 use Rattle.property.specs.declared.Property.{Property}
 use Rattle.property_form.specs.Read.{read, read-refusal, property-read, answer, too-short, pad-broken}

@@ -1,15 +1,17 @@
--- What refusals 1, 2 and 3 say of a property given as plain data. Assumes nothing.
-use Prim.Native.Nat.{ℕ, zero, suc, _≤_, _<_}
-use mathlib.Core.Path.{_≡_, refl, sym, ap, _∙_}
+-- What refusals 1, 2 and 3 say of a property given as plain data.
+use Prim.Native.Nat.{ℕ, _≤_, _<_}
+use mathlib.Core.Path.{_≡_, sym, ap, _∙_}
 use mathlib.Core.Bool.{Bool, true, false, _||_}
-use native.Mathlib.Omega.{arith}
 use borrow.Author.Tests.{ltb-false, le-ltb}
 use lib.ListN.{getD}
 use lib.Dec.{ltb}
 use Rattle.meaning.specs.Numbers.{given, first-of, length-outside, bounds-outside, any-action-above, property-refusal}
+use Rattle.meaning.proofs.Refusals.{none-first, given-none}
+use Rattle.laws.proofs.Tests.{or-split}
+use Rattle.laws.proofs.Places.{length-first}
 use Rattle.property.specs.declared.Property.{Property}
 use Rattle.property.specs.Meant.{action-of, meant, sequence-of}
-use Rattle.property.proofs.Sequence.{length-first, or-left, or-right, not-above, above-of}
+use Rattle.property.proofs.Sequence.{not-above, above-of}
 
 -- The refusal of a sequence of n actions, with the bounds, where b says whether an action number is above 63.
 abbrev pub refusal-of : ℕ → ℕ → ℕ → Bool → ℕ
@@ -28,29 +30,19 @@ pub record Taken (n lb ub : ℕ) : Type 0 where
   pub order : lb ≤ ub
   pub high : ub ≤ 60_000_000
 
-first-zero : (a b : ℕ) → first-of a b ≡ 0 → a ≡ 0
-first-zero zero b e = refl
-first-zero (suc a) b e = e
-
-then-zero : (a b : ℕ) → first-of a b ≡ 0 → b ≡ 0
-then-zero zero b e = e
-then-zero (suc a) b e = let z : ⊥ = omega arith in absurd z
-
-not-given : (n : ℕ) (b : Bool) → given (suc n) b ≡ 0 → b ≡ false
-not-given n true e = let z : ⊥ = omega arith in absurd z
-not-given n false e = refl
-
 pub taken : (n lb ub : ℕ) (b : Bool) → refusal-of n lb ub b ≡ 0 → Taken n lb ub
 taken n lb ub b e =
-    let later : first-of (given 2 (bounds-outside lb ub)) (given 3 b) ≡ 0 = then-zero (given 1 (length-outside n)) (first-of (given 2 (bounds-outside lb ub)) (given 3 b)) e in
-    let one : length-outside n ≡ false = not-given 0 _ (first-zero (given 1 (length-outside n)) _ e) in
-    let two : bounds-outside lb ub ≡ false = not-given 1 _ (first-zero (given 2 (bounds-outside lb ub)) _ later) in
+    let one = none-first 0 (length-outside n) e in
+    let two = none-first 1 (bounds-outside lb ub) (one .1) in
+    let length = or-split (ltb n 1) (ltb 32 n) (one .0) in
+    let bounds = or-split (ltb lb 1 || ltb ub lb) (ltb 60_000_000 ub) (two .0) in
+    let order = or-split (ltb lb 1) (ltb ub lb) (bounds .0) in
     record {
-      some = ltb-false n 1 (or-left (ltb n 1) (ltb 32 n) one);
-      most = ltb-false 32 n (or-right (ltb n 1) (ltb 32 n) one);
-      low = ltb-false lb 1 (or-left (ltb lb 1) (ltb ub lb) (or-left (ltb lb 1 || ltb ub lb) (ltb 60_000_000 ub) two));
-      order = ltb-false ub lb (or-right (ltb lb 1) (ltb ub lb) (or-left (ltb lb 1 || ltb ub lb) (ltb 60_000_000 ub) two));
-      high = ltb-false 60_000_000 ub (or-right (ltb lb 1 || ltb ub lb) (ltb 60_000_000 ub) two);
+      some = ltb-false n 1 (length .0);
+      most = ltb-false 32 n (length .1);
+      low = ltb-false lb 1 (order .0);
+      order = ltb-false ub lb (order .1);
+      high = ltb-false 60_000_000 ub (bounds .1);
     }
 
 pub none-refused : (n lb ub : ℕ) → Taken n lb ub → refusal-of n lb ub false ≡ 0
@@ -59,10 +51,7 @@ none-refused n lb ub t =
 
 -- No number of the sequence is above 63 where none of the three refuses.
 pub no-number-above : (n lb ub : ℕ) (b : Bool) → refusal-of n lb ub b ≡ 0 → b ≡ false
-no-number-above n lb ub b e =
-    let later : first-of (given 2 (bounds-outside lb ub)) (given 3 b) ≡ 0 =
-    then-zero (given 1 (length-outside n)) (first-of (given 2 (bounds-outside lb ub)) (given 3 b)) e in
-    not-given 2 b (then-zero (given 2 (bounds-outside lb ub)) (given 3 b) later)
+no-number-above n lb ub b e = given-none 2 b (none-first 1 (bounds-outside lb ub) (none-first 0 (length-outside n) e .1) .1)
 
 module _ (p : Property) (e : property-refusal (meant p) ≡ 0) where
   pub taken-bounds : Taken (p .n) (p .lb) (p .ub)

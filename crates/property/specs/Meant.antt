@@ -1,25 +1,17 @@
 -- What a property record means: the property of the meaning.
-use Prim.Native.Nat.{ℕ, zero, suc, _/_, _%_, _^_}
+use Prim.Native.Nat.{ℕ}
 use mathlib.Core.Bool.{Bool, true, false}
-use mathlib.Core.List.{List, [], _∷_}
+use mathlib.Core.List.{List}
 use lib.ListN.{getD}
-use lib.Dec.{eqb}
+use Rattle.laws.specs.Places.{first}
+use Rattle.laws.specs.Bits.{bit}
 use Rattle.meaning.specs.Words.{Action}
 use Rattle.meaning.specs.Words
 use Rattle.property.specs.declared.Property.{Property}
 
--- The first n of f 0, f 1, f 2, ..
-unfoldable pub first : {A : Type 0} → (ℕ → A) → ℕ → List A
-first f zero = []
-first f (suc n) = f zero ∷ first (λ i. f (suc i)) n
-
 abbrev pub action-of : Bool → ℕ → Action
 action-of true k = Action.output k
 action-of false k = Action.input k
-
--- Bit k of a mask.
-abbrev pub bit : ℕ → ℕ → Bool
-bit m k = eqb (m / 2 ^ k % 2) 1
 
 -- The first n places are the sequence.
 abbrev pub sequence-of : Property → List Action

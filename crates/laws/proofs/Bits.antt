@@ -1,4 +1,4 @@
--- Laws of masks: a mask and the set that it stands for tell each other; sums of masks, one bit, the lowest bit taken away.
+-- Laws of bits: a number and the set of its bits tell each other; two sets joined, one bit, the lowest bit taken away.
 use Prim.Native.Nat.{ℕ, zero, suc, _+_, _*_, _-_, _/_, _%_, _^_, _≤_, _<_, min}
 use mathlib.Core.Path.{_≡_, refl, sym, ap, ap₂, _∙_, fun-ext}
 use mathlib.Core.Bool.{Bool, true, false, cond, not, _&&_, _||_, true≢false, and-true, and-false}
@@ -10,9 +10,7 @@ use native.Mathlib.Numerals.{add-one}
 use lib.Bits.{bitAnd, bitOr, or-shr, or-mod, and-step, and-self, and-le-r}
 use lib.Count.{trailingZeros, under}
 use borrow.Author.Tests.{eq-eqb, ne-eqb, eqb-true, eqb-false, lt-ltb, ltb-true, ltb-false}
-use Rattle.meaning.specs.Matcher.{at-start, none-of}
-use Rattle.property.specs.Meant.{bit}
-use Rattle.matcher.specs.Masks.{set-of, mask-to, mask-of}
+use Rattle.laws.specs.Bits.{bit, mask-to}
 
 pub bit-zero : (m : ℕ) → bit m zero ≡ eqb (m % 2) 1
 bit-zero m = ap (λ (x : ℕ). eqb (x % 2) 1) (div-one m)
@@ -72,10 +70,6 @@ mask-lt (suc w) f = go (mask-to w (λ k. f (suc k))) (mask-lt w (λ k. f (suc k)
     go : (m : ℕ) → m < 2 ^ w → (b : Bool) → m * 2 + cond b 1 0 < 2 ^ suc w
     go m l true = let e : 2 ^ suc w ≡ 2 ^ w * 2 = pow-suc 2 w in omega arith
     go m l false = let e : 2 ^ suc w ≡ 2 ^ w * 2 = pow-suc 2 w in omega arith
-
--- A number is the mask of its bits.
-pub mask-is : (m : ℕ) (f : ℕ → Bool) → m < 2 ^ 64 → ((k : ℕ) → bit m k ≡ f k) → m ≡ mask-of f
-mask-is m f h e = sym (mask-bit 64 m h) ∙ mask-ext 64 (bit m) f (λ k l. e k)
 
 pub bit-none : (k : ℕ) → bit 0 k ≡ false
 bit-none zero = bit-zero 0
@@ -207,14 +201,3 @@ bit-rest (suc d) m k h l =
 
 pub rest-less : (m : ℕ) → 0 < m → bitAnd m (m - 1) < m
 rest-less m h = let l : bitAnd m (m - 1) ≤ m - 1 = and-le-r m (m - 1) in omega arith
-
--- The masks of the two sets that a session starts with.
-eqb-zero : (k : ℕ) → eqb zero k ≡ eqb k zero
-eqb-zero zero = refl
-eqb-zero (suc k) = eqb·zero-suc k ∙ sym (eqb·suc-zero k)
-
-pub start-mask : set-of 1 false ≡ at-start
-start-mask = ap (λ (f : ℕ → Bool). record { at = f; with-broken = false }) (fun-ext (λ k. bit-one zero k ∙ eqb-zero k))
-
-pub none-mask : set-of 0 false ≡ none-of
-none-mask = ap (λ (f : ℕ → Bool). record { at = f; with-broken = false }) (fun-ext bit-none)

@@ -8,7 +8,7 @@ use lib.ListN.{length, getD, set, replicate, length-set}
 use lib.Seq.{getD-set-same, getD-set-other}
 use lib.Dec.{eqb}
 use borrow.Author.Tests.{eqb-true, eqb-false}
-use Rattle.matcher.specs.Filled.{Filled}
+use Rattle.laws.specs.Filled.{Filled}
 
 module _ {A : Type 0} (z : A) (a : ℕ) (g : ℕ → A) (l : List A) where
   pub filled-none : Filled z a a g l l
