@@ -10,8 +10,8 @@ use Rattle.meaning.specs.Words.{Action, Property, Line}
 use Rattle.meaning.specs.Calls.{is-open}
 use Rattle.meaning.specs.Matcher.{Lengths, moved}
 use Rattle.meaning.specs.Step.{Held, Front, lengths, last-set, closed, appended, swept-one, swept, front-next}
-use Rattle.property.specs.Meant.{first}
-use Rattle.property.proofs.Sequence.{first-same}
+use Rattle.laws.specs.Places.{first}
+use Rattle.laws.proofs.Places.{first-same}
 
 -- Open input i has the line L i, and cut i the set S i.
 abbrev pub held-by : (ℕ → Line) → (ℕ → Lengths) → ℕ → Held Lengths

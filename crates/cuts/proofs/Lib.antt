@@ -1,3 +1,3 @@
 pub mod Fronts
-pub mod Places
-pub mod LastCut
+pub mod Rows
+pub mod Lines

@@ -12,7 +12,7 @@ use Rattle.property.specs.declared.Property.{Property}
 use Rattle.property.proofs.Refusal.{taken-bounds, taken-number}
 use Rattle.matcher.specs.Table.{action-at, Made, IsTable}
 use Rattle.matcher.proofs.Matching.{fall-back-agree}
-pub use Rattle.property.proofs.Sequence.{length-first, getD-first}
+use Rattle.laws.proofs.Places.{length-first, getD-first}
 
 module _ (p : Property) (formed : property-refusal (meant p) ≡ 0) where
   pub formed-length : (1 ≤ p .n) × (p .n ≤ 32)

@@ -11,16 +11,22 @@ use lib.Pow.{pow-pos, shl-exact, split}
 use lib.Bits.{bitAnd, bitOr, and-mask, and-le-l}
 use borrow.Author.Tests.{eq-eqb, ne-eqb, eqb-true, eqb-false, lt-ltb, le-ltb}
 use Rattle.meaning.specs.Words.{Action}
-use Rattle.meaning.specs.Matcher.{State, some-to, is-matched, is-broken, matched-next, outside, moved, either}
+use Rattle.meaning.specs.Matcher.{Lengths, State, some-to, is-matched, is-broken, matched-next, outside, moved, either}
 use Rattle.meaning.specs.Numbers.{property-refusal}
-use Rattle.property.specs.Meant.{action-of, bit, meant}
+use Rattle.laws.specs.Bits.{bit}
+use Rattle.property.specs.Meant.{action-of, meant}
 use Rattle.property.specs.declared.Property.{Property}
-use Rattle.matcher.specs.Masks.{set-of, stepped}
+use Rattle.matcher.specs.Sets.{stepped}
 use Rattle.matcher.specs.Table.{action-at, row-of, IsTable}
-use Rattle.matcher.proofs.Masks.{bit-low, bit-above, bit-or}
+use Rattle.laws.proofs.Bits.{bit-low, bit-above, bit-or}
 use Rattle.matcher.proofs.Matching.{fall-back-le}
 use Rattle.matcher.proofs.Steps.{some-to-agree, some-to-none}
-use Rattle.matcher.proofs.Formed.{length-first, formed-length}
+use Rattle.laws.proofs.Places.{length-first}
+use Rattle.matcher.proofs.Formed.{formed-length}
+
+-- The set that a mask of lengths and a test of broken stand for.
+abbrev pub set-by : ℕ → Bool → Lengths
+set-by m b = record { at = bit m; with-broken = b }
 
 -- The mask of all lengths below n.
 pub ones-below : (n : ℕ) → n ≤ 32 → (1 * 2 ^ n) % 2 ^ 64 ≡ 2 ^ n
@@ -89,7 +95,7 @@ module _ (p : Property) (formed : property-refusal (meant p) ≡ 0) (table : Lis
     to-broken k = bit m k && is-broken (cond (breaks-at k) State.broken (State.matched (matched-next (meant p .sequence) k (action-of out act))))
 
     same-set : (r : ℕ) (c : Bool) → ((j : ℕ) → bit r j ≡ some-to (p .n) (goes-to j)) → c ≡ b || some-to (p .n) to-broken
-        → set-of r c ≡ moved (meant p) (set-of m b) (record { action = action-of out act; stamp = t })
+        → set-by r c ≡ moved (meant p) (set-by m b) (record { action = action-of out act; stamp = t })
     unfolding goes-to to-broken breaks-at
     same-set r c e d =
         ap₂ (λ (f : ℕ → Bool) (x : Bool). record { at = f; with-broken = x })
@@ -99,7 +105,7 @@ module _ (p : Property) (formed : property-refusal (meant p) ≡ 0) (table : Lis
     -- An input, or an allowed output.
     pub moved-inside : outside (meant p) (action-of out act) ≡ false → (r : ℕ)
         → ((j : ℕ) → bit r j ≡ stepped (p .n) (λ k. getD table (at + k) 0) (bit m) j)
-        → set-of r b ≡ moved (meant p) (set-of m b) (record { action = action-of out act; stamp = t })
+        → set-by r b ≡ moved (meant p) (set-by m b) (record { action = action-of out act; stamp = t })
     unfolding goes-to to-broken breaks-at
     moved-inside o r e =
         same-set r b
@@ -121,7 +127,7 @@ module _ (p : Property) (formed : property-refusal (meant p) ≡ 0) (table : Lis
     pub moved-outside : outside (meant p) (action-of out act) ≡ true → m < 2 ^ suc (p .n) → (r : ℕ) (c : Bool)
         → ((j : ℕ) → bit r j ≡ stepped (p .n) (λ k. getD table (at + k) 0) (bit (bitAnd m ((1 * 2 ^ p .n) % 2 ^ 64 - 1))) j)
         → c ≡ b || not (eqb (bitAnd m ((1 * 2 ^ p .n) % 2 ^ 64 - 1)) m)
-        → set-of r c ≡ moved (meant p) (set-of m b) (record { action = action-of out act; stamp = t })
+        → set-by r c ≡ moved (meant p) (set-by m b) (record { action = action-of out act; stamp = t })
     unfolding goes-to to-broken breaks-at
     moved-outside o low r c e d =
         same-set r c
@@ -175,5 +181,5 @@ module _ (p : Property) (allowed act : ℕ) (out : Bool) (q : p .allowed ≡ all
   input-inside e = ap (λ (o : Bool). outside (meant p) (action-of o act)) (sym e)
 
 -- Two sets joined.
-pub joined-is : (m n : ℕ) (b c d : Bool) → d ≡ b || c → set-of (bitOr m n) d ≡ either (set-of m b) (set-of n c)
+pub joined-is : (m n : ℕ) (b c d : Bool) → d ≡ b || c → set-by (bitOr m n) d ≡ either (set-by m b) (set-by n c)
 joined-is m n b c d e = ap₂ (λ (f : ℕ → Bool) (x : Bool). record { at = f; with-broken = x }) (fun-ext (λ k. bit-or m n k)) e

@@ -11,7 +11,7 @@ use borrow.Author.Tests.{leb-true, leb-false, le-leb, eqb-true, eqb-false}
 use Rattle.meaning.specs.Words.{Action}
 use Rattle.meaning.specs.Matcher.{same, fall-back}
 use Rattle.property.specs.Meant.{action-of}
-use Rattle.matcher.specs.Filled.{Filled}
+use Rattle.laws.specs.Filled.{Filled}
 use Rattle.matcher.specs.Table.{action-at, row-of, row-entry, RowRight, Made}
 use Rattle.matcher.proofs.Matching.{fall-back-unnamed}
 

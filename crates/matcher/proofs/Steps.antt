@@ -10,9 +10,9 @@ use lib.Bits.{bitAnd, bitOr, or-lt}
 use lib.Count.{trailingZeros}
 use borrow.Author.Tests.{eq-eqb, ne-eqb, eqb-true, eqb-false}
 use Rattle.meaning.specs.Matcher.{some-to}
-use Rattle.property.specs.Meant.{bit}
-use Rattle.matcher.specs.Masks.{stepped}
-use Rattle.matcher.proofs.Masks.{bit-or, bit-one, bit-none, bit-rest, bit-width, lowest-in}
+use Rattle.laws.specs.Bits.{bit}
+use Rattle.matcher.specs.Sets.{stepped}
+use Rattle.laws.proofs.Bits.{bit-or, bit-one, bit-none, bit-rest, bit-width, lowest-in}
 
 pub some-to-agree : (n : ℕ) (f g : ℕ → Bool) → ((k : ℕ) → k ≤ n → f k ≡ g k) → some-to n f ≡ some-to n g
 unfolding some-to

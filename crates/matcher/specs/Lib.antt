@@ -1,3 +1,2 @@
-pub mod Masks
-pub mod Filled
 pub mod Table
+pub mod Sets

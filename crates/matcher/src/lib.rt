@@ -1,15 +1,14 @@
-// The matcher: how long a beginning of a property's sequence ends what has happened, and sets of such lengths as masks.
-ghost use Prim.Native.Nat.{ℕ, suc, _+_, _^_, _≤_, _<_};
+// The matcher: how long a beginning of a property's sequence ends what has happened. What a cut stores of it is in `sets`.
+pub mod sets;
+
+ghost use Prim.Native.Nat.{ℕ, _+_, _≤_, _<_};
 ghost use mathlib.Core.Path.{_≡_};
-ghost use mathlib.Core.Bool.{_||_};
 ghost use lib.ListN.{length, getD};
 ghost use Rattle.meaning.specs.Matcher;
 ghost use Rattle.meaning.specs.Numbers.{property-refusal};
-ghost use Rattle.property.specs.declared.Property.{Property};
-ghost use Rattle.property.specs.Meant.{action-of, bit, meant};
+ghost use Rattle.property.specs.Meant.{action-of, meant};
 ghost use Rattle.matcher.specs.Table.{action-at, Shorter, row-of, row-entry, Made, IsTable};
-ghost use Rattle.matcher.specs.Filled.{Filled};
-ghost use Rattle.matcher.specs.Masks.{set-of, stepped};
+ghost use Rattle.laws.specs.Filled.{Filled};
 use property::Property;
 
 // ?3 and !3 have nothing in common.
@@ -91,7 +90,7 @@ pub fn fall_back(
 }
 
 // Where the row of an action begins in the table.
-fn row(out: bool, act: u8) -> usize
+pub fn row(out: bool, act: u8) -> usize
     ensures { λ r. ⌜ r ≡ row-of out act ⌝ }
 {
     let a = act as usize;
@@ -209,78 +208,4 @@ pub fn table(p: Property) -> [u8; 4257]
     let number = p.number;
     table_of(&output, &number, p.n, &mut steps);
     steps
-}
-
-// The set of lengths that a set goes to by a row of the table.
-fn step(table: &[u8; 4257], at: usize, n: usize, mask: u64) -> u64
-    requires { ⌜ (n ≤ 32) × (at ≤ 4224) × (mask < 2 ^ suc n) ⌝ }
-    requires { ⌜ ((k : ℕ) → k ≤ n → getD (now table) (at + k) 0 ≤ n) ⌝ }
-    ensures { λ r. ⌜ ((j : ℕ) → bit r j ≡ stepped n (λ k. getD (now (table .entry)) (at + k) 0) (bit mask) j) × (r < 2 ^ suc n) ⌝ }
-{
-    let mut rest = mask;
-    let mut r = 0u64;
-    while rest != 0 {
-        let k = u64::trailing_zeros(rest) as usize;
-        r = r | (1u64 << table[at + k]);
-        rest = rest & (rest - 1);
-    }
-    r
-}
-
-// A set of what the matcher may remember at a cut: a mask of matched lengths, and whether broken is among them.
-pub struct Cut {
-    pub lengths: u64,
-    pub broken: bool,
-}
-
-fn or(a: bool, b: bool) -> bool
-    ensures { λ r. ⌜ r ≡ a || b ⌝ }
-{
-    if a {
-        return true;
-    }
-    b
-}
-
-// "an output outside the allowed set"
-fn outside(allowed: u64, out: bool, act: u8) -> bool
-    ensures { λ r. ⌜ ((p : Property) → p .allowed ≡ allowed → r ≡ Matcher.outside (meant p) (action-of out act)) ⌝ }
-{
-    if out {
-        if act < 64 {
-            return (allowed >> act) % 2 != 1;
-        }
-        return true;
-    }
-    false
-}
-
-// The states that those of a cut move to at an action: the whole sequence matched and the action outside the set is broken.
-pub fn moved(p: Property, table: &[u8; 4257], cut: Cut, out: bool, act: u8) -> Cut
-    requires { ⌜ (property-refusal (meant p) ≡ 0) × IsTable p (now table) × (cut .lengths < 2 ^ suc (p .n)) ⌝ }
-    ensures { λ r. ⌜ ((t : ℕ) → set-of (r .lengths) (r .broken) ≡ Matcher.moved (meant p) (set-of (cut .lengths) (cut .broken)) (record { action = action-of out act; stamp = t })) × (r .lengths < 2 ^ suc (p .n)) ⌝ }
-{
-    let n = p.n;
-    let at = row(out, act);
-    if outside(p.allowed, out, act) {
-        let kept = cut.lengths & ((1u64 << n) - 1);
-        return Cut {
-            lengths: step(table, at, n, kept),
-            broken: or(cut.broken, kept != cut.lengths),
-        };
-    }
-    Cut {
-        lengths: step(table, at, n, cut.lengths),
-        broken: cut.broken,
-    }
-}
-
-// Two sets joined.
-pub fn joined(a: Cut, b: Cut) -> Cut
-    ensures { λ r. ⌜ (set-of (r .lengths) (r .broken) ≡ Matcher.either (set-of (a .lengths) (a .broken)) (set-of (b .lengths) (b .broken))) × ((w : ℕ) → a .lengths < 2 ^ w → b .lengths < 2 ^ w → r .lengths < 2 ^ w) ⌝ }
-{
-    Cut {
-        lengths: a.lengths | b.lengths,
-        broken: or(a.broken, b.broken),
-    }
 }

@@ -1,42 +1,53 @@
 -- `cuts::sweep` meets its contract. The loop: the cuts before i have their new sets, and `cut` is that of i.
-use mathlib.Core.Bool.{false}
-use lib.ListN.{getD, set}
-use borrow.Author.Needs.{needs}
-use Prim.Native.Nat.{ℕ, suc, _+_, _-_, _^_, _≤_, _<_}
-use mathlib.Core.Path.{_≡_, sym, subst, _∙_}
+use Prim.Native.Nat.{ℕ, _+_, _-_, _≤_}
+use mathlib.Core.Path.{_≡_, sym, ap, subst, _∙_}
 use native.Mathlib.Omega.{arith}
-use Rattle.matcher.specs.Masks.{set-of}
-use Rattle.cuts.proofs.Places.{Sweeping, new-set, sweeping-none, sweeping-more, new-set-next, new-set-none, holds-swept}
+use borrow.Author.Needs.{needs}
+use Rattle.meaning.specs.Matcher.{moved}
+use Rattle.property.specs.Meant.{meant}
+use mathlib.Core.Bool.{true}
+use Rattle.matcher.specs.declared.sets.Cut.{Cut}
+use Rattle.matcher.specs.Sets.{set-of, Fits}
+use Rattle.cuts.specs.Steps.{line-of}
+use Rattle.cuts.specs.Arrays.{row}
+use Rattle.cuts.proofs.Rows.{with-cut, Sweeping, new-set, sweeping-none, sweeping-more, new-set-next, new-set-none, row-swept}
 use Rattle.cuts.proofs.sweep.Statement.{statement}
 use Rattle.cuts.proofs.sweep.Tie as tie
 
 abbrev Inv-loop : tie.InvT-loop
-Inv-loop p table held acts masks₀ broken₀ count act t cut₀ i₀ masks broken cut i = (i ≤ count) × Sweeping p held acts masks₀ broken₀ act t i masks broken
-    × (set-of (cut .lengths) (cut .broken) ≡ new-set p held acts masks₀ broken₀ act t i) × (cut .lengths < 2 ^ suc (p .n))
+Inv-loop p table held acts masks₀ marks₀ count act t cut₀ i₀ masks marks cut i =
+    (i ≤ count) × Sweeping p held acts (row masks₀ marks₀) act t i (row masks marks)
+    × (set-of cut ≡ new-set p held acts (row masks₀ marks₀) act t i) × Fits p cut
 
 abbrev μ-loop : tie.MeasureT-loop
-μ-loop p table held acts masks₀ broken₀ count act t cut₀ i₀ masks broken cut i = count - i
+μ-loop p table held acts masks₀ marks₀ count act t cut₀ i₀ masks marks cut i = count - i
 
-element-copy-out-t17 : tie.Need-element-copy-out-t17 Inv-loop μ-loop
-element-copy-out-t17 c = search needs
-
-element-copy-out-t20 : tie.Need-element-copy-out-t20 Inv-loop μ-loop
-element-copy-out-t20 c = search needs
+cut-at-requires : tie.Need-cut-at-requires Inv-loop μ-loop
+cut-at-requires c κs = search needs
 
 moved-requires : tie.Need-moved-requires Inv-loop μ-loop
-moved-requires c κs = (c .before .before .pre .0 .formed, c .before .before .pre .1, c .before .before .pre .0 .matched 0 (omega arith))
+moved-requires c κs =
+    let b = c .before .before .before in
+    (b .pre .0 .formed, b .pre .1, subst (Fits (b .args .p)) (sym (c .cut-at .ensures)) (b .pre .0 .fits 0 (omega arith)))
 
 loop-holds : tie.Need-loop-holds Inv-loop μ-loop
 loop-holds c =
-    let a = c .before .before .before .args in (
+    let b = c .before .before .before .before in
+    let a = b .args in
+    let r = row (a .masks .now) (a .marks .now) in (
       omega arith,
-      sweeping-none (a .p) (a .held .now) (a .acts .now) (a .masks .now) (a .broken .now) (a .act) (a .t) (c .before .before .before .pre .2 .masks-long) (c .before .before .before .pre .2 .broken-long),
-      c .moved .ensures .0 (a .t) ∙ new-set-none (a .p) (a .held .now) (a .acts .now) (a .masks .now) (a .broken .now) (a .act) (a .t),
-      c .moved .ensures .1,
+      sweeping-none (a .p) (a .held .now) (a .acts .now) r (a .act) (a .t) (b .pre .0 .row-tidy .masks-long, b .pre .0 .row-tidy .marks-long),
+      c .moved .ensures .set (a .t)
+          ∙ ap (λ (x : Cut). moved (meant (a .p)) (set-of x) (line-of true (a .act) (a .t))) (c .before .cut-at .ensures)
+          ∙ new-set-none (a .p) (a .held .now) (a .acts .now) r (a .act) (a .t),
+      c .moved .ensures .fits,
     )
 
-add-swept-cut : tie.Need-add-swept-cut Inv-loop μ-loop
-add-swept-cut c = search needs
+add-cut-at : tie.Need-add-cut-at Inv-loop μ-loop
+add-cut-at c = search needs
+
+cut-at-requires-2 : tie.Need-cut-at-requires-2 Inv-loop μ-loop
+cut-at-requires-2 c κs = omega (arith, c .before .before .before .before .before .before .before .before .pre .0 .tidy .few)
 
 mul-swept-cut : tie.Need-mul-swept-cut Inv-loop μ-loop
 mul-swept-cut c = search needs
@@ -44,40 +55,32 @@ mul-swept-cut c = search needs
 element-copy-out-swept-cut : tie.Need-element-copy-out-swept-cut Inv-loop μ-loop
 element-copy-out-swept-cut c = search needs
 
-add-t27 : tie.Need-add-t27 Inv-loop μ-loop
-add-t27 c = search needs
-
-element-copy-out-t21 : tie.Need-element-copy-out-t21 Inv-loop μ-loop
-element-copy-out-t21 c = search needs
-
-mul-swept-cut-2 : tie.Need-mul-swept-cut-2 Inv-loop μ-loop
-mul-swept-cut-2 c = search needs
-
 element-copy-out-swept-cut-2 : tie.Need-element-copy-out-swept-cut-2 Inv-loop μ-loop
 element-copy-out-swept-cut-2 c = search needs
 
-element-copy-out-swept-cut-3 : tie.Need-element-copy-out-swept-cut-3 Inv-loop μ-loop
-element-copy-out-swept-cut-3 c = search needs
-
 swept-cut-requires : tie.Need-swept-cut-requires Inv-loop μ-loop
 swept-cut-requires c κs =
-    let a = c .before .before .before .before .before .before .before .before .before .args in
-    let w = c .before .before .before .before .before .loop in (
-      c .before .before .before .before .before .before .before .before .before .pre .0 .formed,
-      c .before .before .before .before .before .before .before .before .before .pre .1,
-      c .before .before .before .before .before .before .before .before .before .pre .0 .stamps (w .i) (omega arith),
+    let b = c .before .before .before .before .before .before .before .before .before .before .before in
+    let w = c .before .before .before .before .before .before .loop in
+    let after = c .before .before .cut-at2 in (
+      b .pre .0 .formed,
+      b .pre .1,
+      b .pre .0 .stamps (w .i) (omega arith),
       w .inv .3,
-      subst (λ (x : ℕ). x < 2 ^ suc (a .p .n)) (sym (w .inv .1 .masks-kept (w .i + 1) (omega arith))) (c .before .before .before .before .before .before .before .before .before .pre .0 .matched (w .i + 1) (omega arith)),
+      subst (Fits (b .args .p)) (sym (after .ensures ∙ w .inv .1 .kept (w .i + 1) (omega arith))) (b .pre .0 .fits (w .i + 1) (omega arith)),
     )
 
 mul-masks : tie.Need-mul-masks Inv-loop μ-loop
-mul-masks c = search needs
+mul-masks c = omega (arith, c .before .before .before .before .before .before .before .before .before .before .before .before .pre .0 .tidy .few)
 
 element-write-masks : tie.Need-element-write-masks Inv-loop μ-loop
-element-write-masks c = search needs
+element-write-masks c = omega (arith, c .before .before .before .before .before .before .before .before .before .before .before .before .pre .0 .tidy .few)
 
-element-write-broken : tie.Need-element-write-broken Inv-loop μ-loop
-element-write-broken c = search needs
+mul-marks : tie.Need-mul-marks Inv-loop μ-loop
+mul-marks c = omega (arith, c .before .before .before .before .before .before .before .before .before .before .before .before .pre .0 .tidy .few)
+
+element-write-marks : tie.Need-element-write-marks Inv-loop μ-loop
+element-write-marks c = omega (arith, c .before .before .before .before .before .before .before .before .before .before .before .before .pre .0 .tidy .few)
 
 add-i : tie.Need-add-i Inv-loop μ-loop
 add-i c = search needs
@@ -87,15 +90,17 @@ loop-less c = search needs
 
 loop-again : tie.Need-loop-again Inv-loop μ-loop
 loop-again c =
-    let a = c .before .before .before .before .before .before .before .before .before .before .args in
-    let w = c .before .before .before .before .before .before .loop in (
-      omega arith,
-      sweeping-more (a .p) (a .held .now) (a .acts .now) (a .masks .now) (a .broken .now) (a .act) (a .t) (w .i) (w .masks) (w .broken) (w .cut .lengths) (w .cut .broken) (w .inv .1)
-          (let n : a .count ≤ 64 = c .before .before .before .before .before .before .before .before .before .before .pre .0 .counted in omega arith) (w .inv .2) (w .inv .3),
-      new-set-next (a .p) (a .held .now) (a .acts .now) (a .masks .now) (a .broken .now) (a .act) (a .t) (w .i) (getD (w .masks) (w .i + 1) 0) (c .swept-cut .result .lengths) (getD (w .broken) (w .i + 1) false) (c .swept-cut .result .broken)
-          (w .inv .1 .masks-kept (w .i + 1) (omega arith)) (w .inv .1 .broken-kept (w .i + 1) (omega arith))
-          (set-of (w .cut .lengths) (w .cut .broken)) (w .inv .2) (c .swept-cut .ensures .0),
-      c .swept-cut .ensures .1,
+    let b = c .before .before .before .before .before .before .before .before .before .before .before .before in
+    let a = b .args in
+    let r = row (a .masks .now) (a .marks .now) in
+    let w = c .before .before .before .before .before .before .before .loop in
+    let after = c .before .before .before .cut-at2 in (
+      omega (arith, c .before .before .before .before .before .before .loop-test .taken),
+      sweeping-more (a .p) (a .held .now) (a .acts .now) r (a .act) (a .t) (w .i) (row (w .masks) (w .marks)) (w .cut) (w .inv .1)
+          (omega (arith, c .before .before .before .before .before .before .loop-test .taken, b .pre .0 .tidy .few)) (w .inv .2) (w .inv .3),
+      new-set-next (a .p) (a .held .now) (a .acts .now) r (a .act) (a .t) (w .i) (w .cut) (after .result) (c .swept-cut .result) (w .inv .2)
+          (after .ensures ∙ w .inv .1 .kept (w .i + 1) (omega arith)) (c .swept-cut .ensures),
+      c .swept-cut .ensures .fits,
     )
 
 mul-masks-2 : tie.Need-mul-masks-2 Inv-loop μ-loop
@@ -104,20 +109,24 @@ mul-masks-2 c = search needs
 element-write-masks-2 : tie.Need-element-write-masks-2 Inv-loop μ-loop
 element-write-masks-2 c = search needs
 
-element-write-broken-2 : tie.Need-element-write-broken-2 Inv-loop μ-loop
-element-write-broken-2 c = search needs
+mul-marks-2 : tie.Need-mul-marks-2 Inv-loop μ-loop
+mul-marks-2 c = search needs
+
+element-write-marks-2 : tie.Need-element-write-marks-2 Inv-loop μ-loop
+element-write-marks-2 c = search needs
 
 returns : tie.Need-returns Inv-loop μ-loop
 returns c =
-    let a = c .before .before .before .before .before .args in
+    let b = c .before .before .before .before .before .before in
+    let a = b .args in
+    let r = row (a .masks .now) (a .marks .now) in
     let w = c .before .loop in
     let end : w .i ≡ a .count = omega arith in
-    holds-swept (a .p) (a .held .now) (a .acts .now) (a .masks .now) (a .broken .now) (a .act) (a .t) (a .count) (set (w .masks) (a .count) (w .cut .lengths)) (set (w .broken) (a .count) (w .cut .broken))
-    (c .before .before .before .before .before .pre .0) (c .before .before .before .before .before .pre .2) (c .before .before .before .before .before .pre .3)
-    (sweeping-more (a .p) (a .held .now) (a .acts .now) (a .masks .now) (a .broken .now) (a .act) (a .t) (a .count) (w .masks) (w .broken) (w .cut .lengths) (w .cut .broken)
-    (subst (λ (i : ℕ). Sweeping (a .p) (a .held .now) (a .acts .now) (a .masks .now) (a .broken .now) (a .act) (a .t) i (w .masks) (w .broken)) end (w .inv .1))
-    (let n : a .count ≤ 64 = c .before .before .before .before .before .pre .0 .counted in omega arith)
-    (subst (λ (i : ℕ). set-of (w .cut .lengths) (w .cut .broken) ≡ new-set (a .p) (a .held .now) (a .acts .now) (a .masks .now) (a .broken .now) (a .act) (a .t) i) end (w .inv .2))
+    row-swept (a .p) (a .held .now) (a .acts .now) r (a .act) (a .t) (a .count) (with-cut (row (w .masks) (w .marks)) (a .count) (w .cut)) (b .pre .0 .row-tidy)
+    (sweeping-more (a .p) (a .held .now) (a .acts .now) r (a .act) (a .t) (a .count) (row (w .masks) (w .marks)) (w .cut)
+    (subst (λ (i : ℕ). Sweeping (a .p) (a .held .now) (a .acts .now) r (a .act) (a .t) i (row (w .masks) (w .marks))) end (w .inv .1))
+    (omega (arith, b .pre .0 .tidy .few))
+    (subst (λ (i : ℕ). set-of (w .cut) ≡ new-set (a .p) (a .held .now) (a .acts .now) r (a .act) (a .t) i) end (w .inv .2))
     (w .inv .3))
 
 pub sweep-spec : {M : Type 1} → statement M
@@ -126,26 +135,24 @@ sweep-spec =
     (tie.spec
     Inv-loop
     μ-loop
-    element-copy-out-t17
-    element-copy-out-t20
+    cut-at-requires
     moved-requires
     loop-holds
-    add-swept-cut
+    add-cut-at
+    cut-at-requires-2
     mul-swept-cut
     element-copy-out-swept-cut
-    add-t27
-    element-copy-out-t21
-    mul-swept-cut-2
     element-copy-out-swept-cut-2
-    element-copy-out-swept-cut-3
     swept-cut-requires
     mul-masks
     element-write-masks
-    element-write-broken
+    mul-marks
+    element-write-marks
     add-i
     loop-less
     loop-again
     mul-masks-2
     element-write-masks-2
-    element-write-broken-2
+    mul-marks-2
+    element-write-marks-2
     returns)

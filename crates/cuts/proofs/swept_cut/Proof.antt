@@ -1,15 +1,15 @@
 -- `cuts::swept_cut` meets its contract: by whether the input may stand before the output.
-use Prim.Native.Nat.{suc, _+_, _*_}
+use Prim.Native.Nat.{_+_, _*_}
 use mathlib.Core.Path.{sym, ap, ap₂, _∙_}
 use mathlib.Core.Bool.{Bool, true, false, cond}
 use native.Mathlib.Omega.{arith}
+use borrow.Author.Needs.{needs}
 use borrow.Author.Tests.{le-leb, lt-leb}
 use Rattle.meaning.specs.Matcher.{moved, either, none-of}
 use Rattle.property.specs.Meant.{meant}
-use Rattle.matcher.specs.Masks.{set-of}
+use Rattle.matcher.specs.Sets.{set-of}
 use Rattle.matcher.proofs.Formed.{formed-bounds}
-use Rattle.cuts.specs.Arrays.{line-of}
-use borrow.Author.Needs.{needs}
+use Rattle.cuts.specs.Steps.{line-of}
 use Rattle.cuts.proofs.swept_cut.Statement.{statement}
 use Rattle.cuts.proofs.swept_cut.Tie as tie
 
@@ -17,10 +17,14 @@ moved-requires : tie.Need-moved-requires
 moved-requires c κs = search needs
 
 mul-if1 : tie.Need-mul-if1
-mul-if1 c = record { fits = omega (arith, formed-bounds (c .before .before .args .p) (c .before .before .pre .0) .1, formed-bounds (c .before .before .args .p) (c .before .before .pre .0) .2) }
+mul-if1 c =
+    let bounds = formed-bounds (c .before .before .args .p) (c .before .before .pre .0) in
+    record { fits = omega (arith, bounds .1, bounds .2) }
 
 add-if1 : tie.Need-add-if1
-add-if1 c = record { fits = omega (arith, formed-bounds (c .before .before .args .p) (c .before .before .pre .0) .1, formed-bounds (c .before .before .args .p) (c .before .before .pre .0) .2, c .before .before .pre .2) }
+add-if1 c =
+    let bounds = formed-bounds (c .before .before .args .p) (c .before .before .pre .0) in
+    record { fits = omega (arith, bounds .1, bounds .2, c .before .before .pre .2) }
 
 moved-requires-2 : tie.Need-moved-requires-2
 moved-requires-2 c κs = search needs
@@ -30,25 +34,32 @@ joined-requires c κs = search needs
 
 returns : tie.Need-returns
 returns c =
-    let a = c .before .before .before .before .before .args in (
-      c .joined .ensures .0
+    let a = c .before .before .before .before .before .args in
+    let behind = c .before .before .before .before .moved in
+    let direct = c .before .moved2 in
+    record {
+      set =
+          c .joined .ensures .set
           ∙ ap₂ either
-          (c .before .moved2 .ensures .0 (a .t)
-          ∙ ap (λ (b : Bool). cond b (moved (meant (a .p)) (set-of (a .after .lengths) (a .after .broken)) (line-of true (a .act) (a .t))) none-of)
+          (direct .ensures .set (a .t)
+          ∙ ap (λ (b : Bool). cond b (moved (meant (a .p)) (set-of (a .after)) (line-of true (a .act) (a .t))) none-of)
           (sym (le-leb (a .stamp + 2 * a .p .lb) (a .t) (c .before .before .if1 .taken))))
-          (c .before .before .before .before .moved .ensures .0 (a .stamp)),
-      c .joined .ensures .1 (suc (a .p .n)) (c .before .moved2 .ensures .1) (c .before .before .before .before .moved .ensures .1),
-    )
+          (behind .ensures .set (a .stamp));
+      fits = c .joined .ensures .fits (a .p) (direct .ensures .fits) (behind .ensures .fits);
+    }
 
 returns-2 : tie.Need-returns-2
 returns-2 c =
-    let a = c .before .before .before .args in (
-      c .before .before .moved .ensures .0 (a .stamp)
-          ∙ ap (λ (b : Bool). either (cond b (moved (meant (a .p)) (set-of (a .after .lengths) (a .after .broken)) (line-of true (a .act) (a .t))) none-of)
-          (moved (meant (a .p)) (set-of (a .before .lengths) (a .before .broken)) (line-of false (a .input) (a .stamp))))
-          (sym (lt-leb (a .stamp + 2 * a .p .lb) (a .t) (c .if1 .left))),
-      c .before .before .moved .ensures .1,
-    )
+    let a = c .before .before .before .args in
+    let behind = c .before .before .moved in
+    record {
+      set =
+          behind .ensures .set (a .stamp)
+          ∙ ap (λ (b : Bool). either (cond b (moved (meant (a .p)) (set-of (a .after)) (line-of true (a .act) (a .t))) none-of)
+          (moved (meant (a .p)) (set-of (a .before)) (line-of false (a .input) (a .stamp))))
+          (sym (lt-leb (a .stamp + 2 * a .p .lb) (a .t) (c .if1 .left)));
+      fits = behind .ensures .fits;
+    }
 
 pub swept-cut-spec : {M : Type 1} → statement M
 swept-cut-spec =

@@ -1,33 +1,32 @@
 -- `cuts::verdict` meets its contract: the last set is that of the last cut.
-use mathlib.Core.Path.{refl, sym, ap}
-use mathlib.Core.Bool.{true, false, not}
-use lib.ListN.{getD}
-use lib.Dec.{eqb}
-use borrow.Author.Tests.{eq-eqb, ne-eqb}
-use Rattle.cuts.proofs.LastCut.{verdict-read}
+use Prim.Native.Nat.{ℕ}
+use mathlib.Core.Path.{sym, ap, subst, _∙_}
 use borrow.Author.Needs.{needs}
+use Rattle.meaning.specs.Node.{verdict-number}
+use Rattle.meaning.specs.Matcher.{Lengths}
+use Rattle.property.specs.Meant.{meant}
+use Rattle.matcher.specs.declared.sets.Cut.{Cut}
+use Rattle.matcher.specs.Sets.{set-of, Fits, set-verdict}
+use Rattle.held.specs.Held.{line-at}
+use Rattle.cuts.specs.Arrays.{row, set-at}
+use Rattle.cuts.proofs.Fronts.{last-set-first}
 use Rattle.cuts.proofs.verdict.Statement.{statement}
 use Rattle.cuts.proofs.verdict.Tie as tie
 
-element-copy-out-if1 : tie.Need-element-copy-out-if1
-element-copy-out-if1 c = search needs
+cut-at-requires : tie.Need-cut-at-requires
+cut-at-requires c κs = search needs
 
-mul-if2 : tie.Need-mul-if2
-mul-if2 c = search needs
-
-element-copy-out-if2 : tie.Need-element-copy-out-if2
-element-copy-out-if2 c = search needs
+verdict-requires : tie.Need-verdict-requires
+verdict-requires c κs = search needs
 
 returns : tie.Need-returns
-returns c = λ held acts. verdict-read (c .before .before .before .before .args .p) held acts (c .before .before .before .before .args .masks .now) (c .before .before .before .before .args .broken .now) (c .before .before .before .before .args .count) (c .before .before .before .before .pre .1) true false (sym (c .before .before .if1 .taken)) (sym (ap not (eq-eqb (getD (c .before .before .before .before .args .masks .now) (c .before .before .before .before .args .count) 0) 0 (c .if2 .taken))))
-
-returns-2 : tie.Need-returns-2
-returns-2 c = λ held acts. verdict-read (c .before .before .before .before .args .p) held acts (c .before .before .before .before .args .masks .now) (c .before .before .before .before .args .broken .now) (c .before .before .before .before .args .count) (c .before .before .before .before .pre .1) true true (sym (c .before .before .if1 .taken)) (sym (ap not (ne-eqb (getD (c .before .before .before .before .args .masks .now) (c .before .before .before .before .args .count) 0) 0 (c .if2 .left))))
-
-returns-3 : tie.Need-returns-3
-returns-3 c = λ held acts. verdict-read (c .before .before .args .p) held acts (c .before .before .args .masks .now) (c .before .before .args .broken .now) (c .before .before .args .count) (c .before .before .pre .1) false (not (eqb (getD (c .before .before .args .masks .now) (c .before .before .args .count) 0) 0)) (sym (c .if1 .left)) refl
+returns c =
+    let a = c .before .before .args in
+    let cut = c .before .cut-at in
+    λ p held acts fit.
+    c .verdict .ensures p (subst (Fits p) (sym (cut .ensures)) fit)
+    ∙ ap (λ (x : Cut). verdict-number (set-verdict p (set-of x))) (cut .ensures)
+    ∙ ap (λ (s : Lengths). verdict-number (set-verdict p s)) (sym (last-set-first (meant p) (line-at held acts) (set-at (row (a .masks .now) (a .marks .now))) (a .count)))
 
 pub verdict-spec : {M : Type 1} → statement M
-verdict-spec =
-    tie.close
-    (tie.spec element-copy-out-if1 mul-if2 element-copy-out-if2 returns returns-2 returns-3)
+verdict-spec = tie.close (tie.spec cut-at-requires verdict-requires returns)

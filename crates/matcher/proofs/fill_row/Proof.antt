@@ -5,9 +5,9 @@ use native.Mathlib.Nat.{add-zero, add-assoc}
 use native.Mathlib.Omega.{arith}
 use lib.ListN.{set}
 use Rattle.meaning.specs.Words.{Action}
-use Rattle.matcher.specs.Filled.{Filled}
+use Rattle.laws.specs.Filled.{Filled}
 use Rattle.matcher.specs.Table.{action-at, row-entry}
-use Rattle.matcher.proofs.Filled.{filled-none, filled-more}
+use Rattle.laws.proofs.Filled.{filled-none, filled-more}
 use Rattle.matcher.proofs.Rows.{row-le, row-entry-at}
 use borrow.Author.Needs.{needs}
 use Rattle.matcher.proofs.fill_row.Statement.{statement}

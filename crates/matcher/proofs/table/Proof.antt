@@ -1,6 +1,6 @@
 -- `matcher::table` meets its contract: the table of a property that is taken.
 use mathlib.Core.Path.{refl}
-use Rattle.matcher.proofs.Filled.{getD-repeat}
+use Rattle.laws.proofs.Filled.{getD-repeat}
 use Rattle.matcher.proofs.Formed.{formed-length, formed-number, is-table}
 use Rattle.matcher.proofs.table.Statement.{statement}
 use Rattle.matcher.proofs.table.Tie as tie

@@ -1,0 +1,17 @@
+-- `held::act_at` meets its contract: behind the places in use there is nothing but 0.
+use mathlib.Core.Path.{sym}
+use borrow.Author.Needs.{needs}
+use Rattle.held.proofs.act_at.Statement.{statement}
+use Rattle.held.proofs.act_at.Tie as tie
+
+element-copy-out-result : tie.Need-element-copy-out-result
+element-copy-out-result c = search needs
+
+returns : tie.Need-returns
+returns c = search needs
+
+returns-2 : tie.Need-returns-2
+returns-2 c = sym (c .before .pre .1 (c .before .args .i) (c .if1 .left))
+
+pub act-at-spec : {M : Type 1} → statement M
+act-at-spec = tie.close (tie.spec element-copy-out-result returns returns-2)

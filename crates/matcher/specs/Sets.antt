@@ -1,0 +1,53 @@
+-- What a cut stores: a set of what the matcher may remember there, in two words. Crates above know it by these names and
+-- their laws alone (`proofs/Words.antt`).
+use Prim.Native.Nat.{ℕ, suc, _^_, _<_}
+use mathlib.Core.Path.{_≡_}
+use mathlib.Core.Bool.{Bool, false, cond, _&&_, _||_}
+use lib.ListN.{length}
+use lib.Dec.{eqb, leb, ltb}
+use Rattle.laws.specs.Bits.{bit, mask-to}
+use Rattle.meaning.specs.Words.{Action}
+use Rattle.meaning.specs.Words
+use Rattle.meaning.specs.Node.{Verdict}
+use Rattle.meaning.specs.Matcher.{Lengths, some-to, some-length, moved, either}
+use Rattle.meaning.specs.Step.{lengths, verdict-of}
+use Rattle.property.specs.Meant.{meant}
+use Rattle.property.specs.declared.Property.{Property}
+use Rattle.matcher.specs.declared.sets.Cut.{Cut}
+
+-- The set that two words stand for: bit k of the mask is set where length k is in it, bit 0 of the marks where broken is.
+unfoldable pub set-of : Cut → Lengths
+set-of c = record { at = bit (c .mask); with-broken = bit (c .marks) 0 }
+
+-- The way back.
+unfoldable pub cut-of : Lengths → Cut
+cut-of s = record { mask = mask-to 64 (s .at); marks = cond (s .with-broken) 1 0 }
+
+-- "a matched length above the sequence's", of n actions; or a mark that is none.
+unfoldable pub stray : ℕ → Cut → Bool
+stray n c = leb (2 ^ suc n) (c .mask) || ltb 1 (c .marks)
+
+-- The words are those of a set for a property.
+abbrev pub Fits : Property → Cut → Type 0
+Fits p c = stray (p .n) c ≡ false
+
+-- The verdict, where the set is that of every explanation.
+abbrev pub set-verdict : Property → Lengths → Verdict
+set-verdict p s = verdict-of (meant p) (lengths (meant p)) (s .with-broken) (some-length (meant p) s)
+
+-- A set for a property has no length above the sequence's.
+pub record Short (p : Words.Property) (s : Lengths) : Type 0 where
+  pub none-above : (k : ℕ) → length (p .sequence) < k → s .at k ≡ false
+
+-- Where a set of lengths up to n goes, if length k goes to f k.
+abbrev pub stepped : ℕ → (ℕ → ℕ) → (ℕ → Bool) → ℕ → Bool
+stepped n f s j = some-to n (λ k. s k && eqb (f k) j)
+
+-- What an action leads to, and two sets joined: the meaning's, in words of the same property.
+pub record Moved (p : Property) (before : Cut) (action : Action) (after : Cut) : Type 0 where
+  pub set : (t : ℕ) → set-of after ≡ moved (meant p) (set-of before) (record { action = action; stamp = t })
+  pub fits : Fits p after
+
+pub record Joined (a b after : Cut) : Type 0 where
+  pub set : set-of after ≡ either (set-of a) (set-of b)
+  pub fits : (p : Property) → Fits p a → Fits p b → Fits p after
