@@ -1,67 +1,60 @@
 -- After any calls the session over cuts agrees with what the calls have come to: refusals, number open, verdict.
-use Prim.Native.Nat.{ℕ, zero, suc, _+_, _*_, _≤_, _<_}
+use Prim.Native.Nat.{ℕ, zero, suc, _≤_}
 use mathlib.Core.Path.{_≡_, refl, sym, _∙_, ap, subst}
-use mathlib.Core.Logic.{_↔_}
-use mathlib.Core.Bool.{Bool, true, false, cond, not, _&&_, true≢false}
+use mathlib.Core.Bool.{Bool, true, false, cond}
 use mathlib.Core.List.{List, [], _∷_, _++_}
 use native.Mathlib.Omega.{arith}
 use lib.ListN.{length}
-use lib.Dec.{T, leb, ltb, ltb→lt, nltb→le}
+use lib.Dec.{ltb}
+use borrow.Author.Tests.{ltb-false}
 use Rattle.meaning.specs.Limits.{most-open, last-stamp}
-use Rattle.meaning.specs.Words.{Action, Property, Line, Run}
-use Rattle.meaning.specs.Node.{Breaks, Verdict, verdict-number, IsVerdict, VerdictFor}
-use Rattle.meaning.specs.Numbers.{given, first-of, action-above}
-use Rattle.meaning.specs.Calls.{is-open, open-at, Call, Watch, fresh, beyond, with-line, with-mark, stamp-refusal, line-refusal, refusal, taken, unless-refused, next, watched, Standing, open-of, Answer, refused, Told, TakenAnswer, AnswerBy, IsAnswer}
-use Rattle.meaning.specs.Step.{Sets, Held, Front, Cuts, last-set, closed, appended, swept, front-next, front-with, fresh-front, no-front, fresh-cuts, verdict-of, front-verdict, cuts-verdict, cuts-open, cuts-with-line, cuts-with-mark, cuts-line-refusal, cuts-refusal, cuts-taken, cuts-next, told, cuts-told, cuts-answer, cuts-after}
-use Rattle.meaning.proofs.Pairs.{Bounds}
-use Rattle.meaning.proofs.Refusals.{first-of-none, first-of-later, given-none}
+use Rattle.meaning.specs.Words.{Property, Line, Run}
+use Rattle.meaning.specs.Node.{Breaks, Verdict, verdict-number}
+use Rattle.meaning.specs.Numbers.{given, action-above}
+use Rattle.meaning.specs.Calls.{open-at, Call, Watch, fresh, beyond, with-line, stamp-refusal, refusal, taken, unless-refused, next, watched}
+use Rattle.meaning.specs.Calls.{Standing, open-of, Answer, refused, Told, TakenAnswer, AnswerBy, IsAnswer}
+use Rattle.meaning.specs.Step.{Sets, Front, Cuts, front-with, fresh-front, no-front, fresh-cuts, cuts-verdict, cuts-open, cuts-with-line}
+use Rattle.meaning.specs.Step.{cuts-refusal, cuts-taken, cuts-next, cuts-told, cuts-answer, cuts-after}
+use Rattle.meaning.proofs.Refusals.{first-of-none, first-of-later, given-none, none-first}
 use Rattle.meaning.proofs.Facts.{verdict-unique}
-use Rattle.meaning.proofs.Sets.{Matcher, along, SetLaws}
+use Rattle.meaning.proofs.Fronts.{few-first}
+use Rattle.meaning.proofs.Sets.{Reading}
 use Rattle.meaning.proofs.Exact.{Fits, fresh-fits, front-fits, held-is-open, front-verdict-exact}
 
-not-below : (m n : ℕ) → ltb m n ≡ false → n ≤ m
-not-below m n e = nltb→le m n (subst (λ (t : Bool). T (not t)) (sym e) tt)
-
 pub not-refused-stamp : (latest t : ℕ) → stamp-refusal latest t ≡ 0 → latest ≤ t
-not-refused-stamp latest t e = not-below t latest (given-none 4 (ltb t latest) (first-of-none (given 4 (ltb last-stamp t)) e .1))
+not-refused-stamp latest t e = ltb-false t latest (given-none 4 (ltb t latest) (none-first 3 (ltb last-stamp t) e .1))
 
-module _ (p : Property) (b : Bounds p) (M : Matcher) (𝓢 : Sets) (laws : SetLaws M 𝓢)
-    (reads : (order : List Line) → (M .is-broken (along M (M .begin) order) ≡ true) ↔ Breaks p order) where
+module _ {p : Property} {Breaking : List Line → Type 0} (R : Reading p Breaking) where
+  abbrev 𝓢 : Sets
+  𝓢 = R .sets
+
   pub data Agrees : Watch → Cuts (𝓢 .Set) → Type 0 where
-    open-run : (run : Run) (latest : ℕ) (f : Front (𝓢 .Set)) → Fits p b M 𝓢 laws latest run f → length (f .held) ≤ most-open
+    open-run : (run : Run) (latest : ℕ) (f : Front (𝓢 .Set)) → Fits R latest run f → length (f .held) ≤ most-open
         → Agrees (record { is-blind = false; run = run; latest = latest }) (record { is-blind = false; front = f; latest = latest })
     blind : (latest : ℕ) → Agrees (record { is-blind = true; run = []; latest = latest }) (record { is-blind = true; front = no-front p 𝓢; latest = latest })
 
   pub fresh-agrees : Agrees fresh (fresh-cuts p 𝓢)
-  fresh-agrees = open-run [] 0 (fresh-front p 𝓢) (fresh-fits p b M 𝓢 laws 0) (omega arith)
+  fresh-agrees = open-run [] 0 (fresh-front p 𝓢) (fresh-fits R 0) (omega arith)
 
   pub refusal-agrees : {w : Watch} {c : Cuts (𝓢 .Set)} → Agrees w c → (k : Call) → cuts-refusal p 𝓢 c k ≡ refusal p w k
   refusal-agrees (open-run run latest f fit few) (Call.line l) =
       first-of-later (given 3 (action-above (l .action)))
       (λ z. first-of-later (stamp-refusal latest (l .stamp))
       (λ e. ap (λ (n : ℕ). given 6 (ltb most-open n))
-      (sym (held-is-open p b M 𝓢 laws (front-fits p b M 𝓢 laws latest run f fit l (not-refused-stamp latest (l .stamp) e))))))
+      (sym (held-is-open R (front-fits R latest run f fit l (not-refused-stamp latest (l .stamp) e))))))
   refusal-agrees (open-run run latest f fit few) (Call.mark g) = refl
   refusal-agrees (blind latest) (Call.line l) = refl
   refusal-agrees (blind latest) (Call.mark g) = refl
 
-  -- the first line of a run holds at most itself
-  one-held : (a : Action) (t : ℕ) → length (front-with p 𝓢 (fresh-front p 𝓢) (record { action = a; stamp = t }) .held) ≤ 1
-  unfolding closed appended swept
-  one-held (Action.input k) t = omega arith
-  one-held (Action.output k) t = omega arith
-
   pub taken-agrees : {w : Watch} {c : Cuts (𝓢 .Set)} → Agrees w c → (k : Call) → refusal p w k ≡ 0 → Agrees (taken p w k) (cuts-taken p 𝓢 c k)
   taken-agrees (open-run run latest f fit few) (Call.line l) e =
-      let r : (given 3 (action-above (l .action)) ≡ 0) × (first-of (stamp-refusal latest (l .stamp)) (given 6 (ltb most-open (open-at p (l .stamp) (run ++ l ∷ [])))) ≡ 0) =
-      first-of-none (given 3 (action-above (l .action))) e in
       let q : (stamp-refusal latest (l .stamp) ≡ 0) × (given 6 (ltb most-open (open-at p (l .stamp) (run ++ l ∷ []))) ≡ 0) =
-      first-of-none (stamp-refusal latest (l .stamp)) (r .1) in
-      let fit′ : Fits p b M 𝓢 laws (l .stamp) (run ++ l ∷ []) (front-with p 𝓢 f l) =
-      front-fits p b M 𝓢 laws latest run f fit l (not-refused-stamp latest (l .stamp) (q .0)) in
+      first-of-none (stamp-refusal latest (l .stamp)) (none-first 2 (action-above (l .action)) e .1) in
+      let fit′ : Fits R (l .stamp) (run ++ l ∷ []) (front-with p 𝓢 f l) =
+      front-fits R latest run f fit l (not-refused-stamp latest (l .stamp) (q .0)) in
       open-run (run ++ l ∷ []) (l .stamp) (front-with p 𝓢 f l) fit′
-      (subst (λ (n : ℕ). n ≤ most-open) (held-is-open p b M 𝓢 laws fit′) (not-below most-open (open-at p (l .stamp) (run ++ l ∷ [])) (given-none 5 _ (q .1))))
-  taken-agrees (open-run run latest f fit few) (Call.mark g) e = blind g
+      (subst (λ (n : ℕ). n ≤ most-open) (held-is-open R fit′) (ltb-false most-open (open-at p (l .stamp) (run ++ l ∷ [])) (given-none 5 _ (q .1))))
+  taken-agrees (open-run run latest f fit few) (Call.mark g) e = blind (g .stamp)
   taken-agrees (blind latest) (Call.line l) e = go (beyond p latest (l .stamp))
     where
       go : (t : Bool)
@@ -72,10 +65,10 @@ module _ (p : Property) (b : Bounds p) (M : Matcher) (𝓢 : Sets) (laws : SetLa
           (record { is-blind = true; front = no-front p 𝓢; latest = l .stamp }))
       go true =
           open-run (l ∷ []) (l .stamp) (front-with p 𝓢 (fresh-front p 𝓢) l)
-          (front-fits p b M 𝓢 laws 0 [] (fresh-front p 𝓢) (fresh-fits p b M 𝓢 laws 0) l (omega arith))
-          (omega (arith, one-held (l .action) (l .stamp)))
+          (front-fits R 0 [] (fresh-front p 𝓢) (fresh-fits R 0) l (omega arith))
+          (few-first p 𝓢 (l .action) (l .stamp))
       go false = blind (l .stamp)
-  taken-agrees (blind latest) (Call.mark g) e = blind g
+  taken-agrees (blind latest) (Call.mark g) e = blind (g .stamp)
 
   pub next-agrees : {w : Watch} {c : Cuts (𝓢 .Set)} → Agrees w c → (k : Call) → Agrees (next p w k) (cuts-next p 𝓢 c k)
   next-agrees {w} {c} a k =
@@ -90,13 +83,12 @@ module _ (p : Property) (b : Bounds p) (M : Matcher) (𝓢 : Sets) (laws : SetLa
   after-agrees a [] = a
   after-agrees a (k ∷ ks) = after-agrees (next-agrees a k) ks
 
-  -- the verdict read off the cuts is the one that stands
-  pub standing-agrees : {w : Watch} {c : Cuts (𝓢 .Set)} → Agrees w c → Standing p w (cuts-verdict p 𝓢 c)
-  standing-agrees (open-run run latest f fit few) = front-verdict-exact p b M 𝓢 laws (Breaks p) run reads fit
-  standing-agrees (blind latest) = refl
+  -- after any calls on a fresh session
+  pub grown-agrees : (ks : List Call) → Agrees (watched p fresh ks) (cuts-after p 𝓢 (fresh-cuts p 𝓢) ks)
+  grown-agrees = after-agrees fresh-agrees
 
   pub open-agrees : {w : Watch} {c : Cuts (𝓢 .Set)} → Agrees w c → cuts-open p 𝓢 c ≡ open-of p w
-  open-agrees (open-run run latest f fit few) = sym (held-is-open p b M 𝓢 laws fit)
+  open-agrees (open-run run latest f fit few) = sym (held-is-open R fit)
   open-agrees (blind latest) = refl
 
   -- "there are never more than sixty-five cuts to hold, one before each open input and one after all"
@@ -104,27 +96,40 @@ module _ (p : Property) (b : Bounds p) (M : Matcher) (𝓢 : Sets) (laws : SetLa
   few-cuts (open-run run latest f fit few) = omega (arith, few)
   few-cuts (blind latest) = omega arith
 
-  pub answer-agrees : {w : Watch} {c : Cuts (𝓢 .Set)} → Agrees w c → (k : Call) → IsAnswer p w k (cuts-answer p 𝓢 c k)
-  answer-agrees {w} {c} a k =
-      subst (λ (n : ℕ). IsAnswer p w k (unless-refused n (cuts-told p 𝓢 c k) (refused n))) (sym (refusal-agrees a k)) (go (refusal p w k) refl)
-    where
-      taken-told : (k : Call) → refusal p w k ≡ 0 → TakenAnswer p w k (cuts-told p 𝓢 c k)
-      taken-told (Call.line l) e =
-          let a′ : Agrees (with-line p w l) (cuts-with-line p 𝓢 c l) = taken-agrees a (Call.line l) e in
-          record { taken = refl; verdict = cuts-verdict p 𝓢 (cuts-with-line p 𝓢 c l); stands = standing-agrees a′; told = refl; counted = open-agrees a′ }
-      taken-told (Call.mark g) e =
-          record { taken = refl; verdict = cuts-verdict p 𝓢 c; stands = standing-agrees a; told = refl; counted = refl }
+-- For the breaches of document 01, which the definition of an answer names:
+module _ {p : Property} (R : Reading p (Breaks p)) where
+  -- the verdict read off the cuts is the one that stands
+  pub standing-agrees : {w : Watch} {c : Cuts (R .sets .Set)} → Agrees R w c → Standing p w (cuts-verdict p (R .sets) c)
+  standing-agrees (open-run run latest f fit few) = front-verdict-exact R run fit
+  standing-agrees (blind latest) = refl
 
-      go : (n : ℕ) → refusal p w k ≡ n → AnswerBy n p w k (unless-refused n (cuts-told p 𝓢 c k) (refused n))
+  pub answer-agrees : {w : Watch} {c : Cuts (R .sets .Set)} → Agrees R w c → (k : Call) → IsAnswer p w k (cuts-answer p (R .sets) c k)
+  answer-agrees {w} {c} a k =
+      subst (λ (n : ℕ). IsAnswer p w k (unless-refused n (cuts-told p (R .sets) c k) (refused n))) (sym (refusal-agrees R a k)) (go (refusal p w k) refl)
+    where
+      taken-told : (k : Call) → refusal p w k ≡ 0 → TakenAnswer p w k (cuts-told p (R .sets) c k)
+      taken-told (Call.line l) e =
+          let a′ : Agrees R (with-line p w l) (cuts-with-line p (R .sets) c l) = taken-agrees R a (Call.line l) e in
+          record {
+            taken = refl;
+            verdict = cuts-verdict p (R .sets) (cuts-with-line p (R .sets) c l);
+            stands = standing-agrees a′;
+            told = refl;
+            counted = open-agrees R a′;
+          }
+      taken-told (Call.mark g) e =
+          record { taken = refl; verdict = cuts-verdict p (R .sets) c; stands = standing-agrees a; told = refl; counted = refl }
+
+      go : (n : ℕ) → refusal p w k ≡ n → AnswerBy n p w k (unless-refused n (cuts-told p (R .sets) c k) (refused n))
       go zero e = taken-told k e
       go (suc n) e = refl
 
   -- one verdict stands, and a call has one answer
-  pub standing-unique : {w : Watch} {c : Cuts (𝓢 .Set)} → Agrees w c → (u v : Verdict) → Standing p w u → Standing p w v → u ≡ v
-  standing-unique (open-run run latest f fit few) u v h k = verdict-unique p b run 0 (fit .rising) (Breaks p) u v h k
+  pub standing-unique : {w : Watch} {c : Cuts (R .sets .Set)} → Agrees R w c → (u v : Verdict) → Standing p w u → Standing p w v → u ≡ v
+  standing-unique (open-run run latest f fit few) u v h k = verdict-unique p (R .bounds) run 0 (fit .rising) (Breaks p) u v h k
   standing-unique (blind latest) u v h k = h ∙ sym k
 
-  told-unique : {w : Watch} {c : Cuts (𝓢 .Set)} → Agrees w c → (n : ℕ) (x y : Answer) → Told p w n x → Told p w n y → x ≡ y
+  told-unique : {w : Watch} {c : Cuts (R .sets .Set)} → Agrees R w c → (n : ℕ) (x y : Answer) → Told p w n x → Told p w n y → x ≡ y
   told-unique a n x y h k =
       let v : h .verdict ≡ k .verdict = standing-unique a (h .verdict) (k .verdict) (h .stands) (k .stands) in
       let r : x .refusal ≡ y .refusal = h .taken ∙ sym (k .taken) in
@@ -132,11 +137,11 @@ module _ (p : Property) (b : Bounds p) (M : Matcher) (𝓢 : Sets) (laws : SetLa
       let o : x .open-count ≡ y .open-count = h .counted ∙ sym (k .counted) in
       λ i. record { refusal = r i; verdict = t i; open-count = o i }
 
-  pub answer-unique : {w : Watch} {c : Cuts (𝓢 .Set)} → Agrees w c → (k : Call) (x y : Answer) → IsAnswer p w k x → IsAnswer p w k y → x ≡ y
+  pub answer-unique : {w : Watch} {c : Cuts (R .sets .Set)} → Agrees R w c → (k : Call) (x y : Answer) → IsAnswer p w k x → IsAnswer p w k y → x ≡ y
   answer-unique {w} {c} a k x y h h′ = go (refusal p w k) refl h h′
     where
       taken-unique : (k : Call) → refusal p w k ≡ 0 → TakenAnswer p w k x → TakenAnswer p w k y → x ≡ y
-      taken-unique (Call.line l) e t t′ = told-unique (taken-agrees a (Call.line l) e) (open-of p (with-line p w l)) x y t t′
+      taken-unique (Call.line l) e t t′ = told-unique (taken-agrees R a (Call.line l) e) (open-of p (with-line p w l)) x y t t′
       taken-unique (Call.mark g) e t t′ = told-unique a 0 x y t t′
 
       go : (n : ℕ) → refusal p w k ≡ n → AnswerBy n p w k x → AnswerBy n p w k y → x ≡ y

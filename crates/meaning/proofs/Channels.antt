@@ -1,16 +1,17 @@
 -- Lines of one channel, stamps along a channel, and an order made of two channels: merged by the moments a + LB and b − LB.
-use Prim.Native.Nat.{ℕ, zero, suc, _+_, _*_, _≤_, _<_}
+use Prim.Native.Nat.{ℕ, _+_, _*_, _≤_, _<_}
 use mathlib.Core.Path.{_≡_, refl, sym, _∙_, ap, subst}
+use mathlib.Core.Logic.{_⊎_, inl, inr}
 use mathlib.Core.Bool.{Bool, true, false, cond, not}
-use mathlib.Core.List.{List, [], _∷_, _++_, append-nil, append-assoc, head-eq-of-cons-eq, tail-eq-of-cons-eq, nil≢cons}
+use mathlib.Core.List.{List, [], _∷_, _++_}
 use native.Mathlib.Omega.{arith}
 use native.Mathlib.Nat.{le-refl, le-trans}
-use lib.ListN.{length, length-append}
 use lib.Dec.{T, leb, leb→le, nleb→lt}
 use Rattle.meaning.specs.Words.{Action, Property, Line, StampsFrom}
 use Rattle.meaning.specs.Node.{keep-input, keep-output, ins, outs}
-use Rattle.meaning.proofs.Lists.{All, done, also, all-head, all-tail, all-append, all-left, all-right, all-map, all-both, all-of, all-channels, from-all, from-weaker, ins-append, outs-append, snoc-append, Ended, empty, ended, end-of}
-use Rattle.meaning.proofs.Pairs.{Bounds, Stand, May, Pairs, none, first, Cross}
+use Rattle.meaning.proofs.Lists.{All, done, also, all-head, all-append, all-right, all-map, all-both}
+use Rattle.meaning.proofs.Lists.{all-of, all-channels, from-all, from-weaker, Ended, empty, ended, end-of}
+use Rattle.meaning.proofs.Pairs.{Bounds, Stand, May, Pairs, none, first}
 
 abbrev pub IsIn : Action → Type 0
 IsIn (Action.input k) = Unit {0}
@@ -25,6 +26,11 @@ In l = IsIn (l .action)
 
 abbrev pub Out : Line → Type 0
 Out l = IsOut (l .action)
+
+-- an input or an output, as a view
+pub in-or-out : (a : Action) → IsIn a ⊎ IsOut a
+in-or-out (Action.input k) = inl tt
+in-or-out (Action.output k) = inr tt
 
 kept-in : (a : Action) (t : ℕ) {u : List Line} → All In u → All In (keep-input a (record { action = a; stamp = t }) u)
 kept-in (Action.input k) t h = also tt h
@@ -219,7 +225,8 @@ module _ (p : Property) where
   merged-outs {o} h k = keeps h .outs-kept o k
 
   -- what holds of both channels holds of the merged list
-  all-into : {P : Line → Type 0} (x : Line) (rec : List Line → List Line) (i o : List Line) → In x → Keeps i rec → All Out o → P x → All P i → All P o → All P (into x rec o)
+  all-into : {P : Line → Type 0} (x : Line) (rec : List Line → List Line) (i o : List Line) → In x → Keeps i rec → All Out o
+      → P x → All P i → All P o → All P (into x rec o)
   all-into {P} x rec i o h k a px pi po =
       all-channels (into x rec o)
       (subst (All P) (sym (into-ins x rec h k o a)) (also px pi))

@@ -1,16 +1,17 @@
 -- The facts that document 01 wants proved of its definition of an explanation.
-use Prim.Native.Nat.{ℕ, zero, suc, _+_, _*_, _≤_, _<_, min}
+use Prim.Native.Nat.{ℕ, suc, _+_, _*_, _≤_}
 use mathlib.Core.Path.{_≡_, refl, sym, _∙_, ap, subst}
 use mathlib.Core.Logic.{_↔_}
-use mathlib.Core.List.{List, [], _∷_, _++_, append-nil, append-assoc, head-eq-of-cons-eq, tail-eq-of-cons-eq, nil≢cons}
+use mathlib.Core.List.{List, [], _∷_, _++_, head-eq-of-cons-eq, tail-eq-of-cons-eq}
 use native.Mathlib.Omega.{arith}
-use native.Mathlib.Nat.{le-trans}
-use lib.ListN.{length, length-append, take, drop, take-append-drop, length-take, length-drop}
+use lib.ListN.{length, length-append, take, drop, take-append-drop, length-take}
 use Rattle.meaning.specs.Words.{Action, Property, Line, Run, StampsFrom}
-use Rattle.meaning.specs.Node.{ins, outs, Order, Timed, Explanation, InputFirst, OutputFirst, Numbered, Possible, CutRule, Some, Verdict, VerdictFor}
-use Rattle.meaning.proofs.Lists.{All, done, also, all-head, all-tail, all-append, all-left, all-right, all-map, all-both, all-of, all-ins, all-outs, all-channels, Ended, empty, ended, end-of, from-ins, from-outs, ins-append, outs-append, snoc-append}
-use Rattle.meaning.proofs.Pairs.{Bounds, May, Pairs, none, first, Cross, pairs-append, pairs-left, pairs-cross, timed-pairs, pairs-timed}
-use Rattle.meaning.proofs.Channels.{In, Out, ins-in, outs-out, ins-cons, outs-skip, outs-cons, ins-skip, in-in, out-out, in-out, out-in, in-out-asks, out-in-asks, from-left, from-right, from-cross, innermost, merged, merged-ins, merged-outs, all-merged, merged-pairs}
+use Rattle.meaning.specs.Node.{ins, outs, Order, Timed, Explanation, InputFirst, OutputFirst, Possible, CutRule, Some, Verdict, VerdictFor}
+use Rattle.meaning.proofs.Lists.{All, done, also, all-head, all-left, all-right, all-map, all-both}
+use Rattle.meaning.proofs.Lists.{all-ins, all-outs, all-channels, from-ins, from-outs, ins-append, outs-append, snoc-append}
+use Rattle.meaning.proofs.Pairs.{Bounds, May, Pairs, none, first, Cross, pairs-append, pairs-cross, timed-pairs, pairs-timed}
+use Rattle.meaning.proofs.Channels.{In, Out, ins-in, outs-out, in-in, out-out, in-out, out-in, in-out-asks}
+use Rattle.meaning.proofs.Channels.{out-in-asks, from-left, from-right, from-cross, innermost, merged, merged-ins, merged-outs, merged-pairs}
 
 -- two splits of one list at the same place
 pub split-same : {A : Type 0} (a b c d : List A) → a ++ b ≡ c ++ d → length a ≡ length c → (a ≡ c) × (b ≡ d)

@@ -1,24 +1,23 @@
 -- Full histories: what the watcher is blind to, and that from a boundary on its verdict is the one over everything.
 use Prim.Native.Nat.{ℕ, zero, suc, _+_, _*_, _≤_, _<_, max}
 use mathlib.Core.Path.{_≡_, refl, sym, _∙_, ap, subst}
-use mathlib.Core.Bool.{Bool, true, false, cond, not, _&&_, true≢false}
+use mathlib.Core.Bool.{Bool, true, false, cond}
 use mathlib.Core.List.{List, [], _∷_, _++_, append-assoc, append-nil}
 use native.Mathlib.Omega.{arith}
 use native.Mathlib.Nat.{le-refl, le-trans}
-use lib.Dec.{ltb}
-use Rattle.meaning.specs.Limits.{most-open, last-stamp}
-use Rattle.meaning.specs.Words.{Action, Property, Line, Run, StampsFrom}
+use borrow.Author.Tests.{lt-ltb, le-ltb}
+use Rattle.meaning.specs.Words.{Property, Line, Run, StampsFrom}
 use Rattle.meaning.specs.Node.{Verdict, VerdictFor}
-use Rattle.meaning.specs.Numbers.{given, first-of, action-above}
-use Rattle.meaning.specs.Calls.{open-at, Call, Watch, fresh, beyond, with-line, stamp-refusal, refusal, taken, unless-refused, next, watched, AllTaken, kept, Standing}
+use Rattle.meaning.specs.Numbers.{given, action-above}
+use Rattle.meaning.specs.Calls.{Mark, Call, Watch, fresh, beyond, with-line, stamp-refusal, refusal}
+use Rattle.meaning.specs.Calls.{taken, unless-refused, next, watched, AllTaken, kept, Standing}
 use Rattle.meaning.specs.History.{Event, fed, all-lines, MarkedBy, LostMarked, Premises, stamp-of, highest, Quiet, NoMark, BreaksAfter}
-use Rattle.meaning.proofs.Lists.{All, done, also, all-append, all-map, from-all}
+use Rattle.meaning.proofs.Lists.{All, done, also, all-map, all-ins, all-outs, from-all}
 use Rattle.meaning.proofs.Pairs.{Bounds}
-use Rattle.meaning.proofs.Tests.{lt-ltb, ge-ltb}
 use Rattle.meaning.proofs.Channels.{from-right}
 use Rattle.meaning.proofs.Refusals.{first-of-none}
 use Rattle.meaning.proofs.Calls.{not-refused-stamp}
-use Rattle.meaning.proofs.Boundary.{Early, Late, whole-verdict}
+use Rattle.meaning.proofs.Boundary.{whole-verdict}
 
 abbrev blind-watch : ℕ → Watch
 blind-watch t = record { is-blind = true; run = []; latest = t }
@@ -40,7 +39,7 @@ module _ (p : Property) where
   not-refused-late w (Call.line l) e =
       not-refused-stamp (w .latest) (l .stamp)
       (first-of-none (stamp-refusal (w .latest) (l .stamp)) (first-of-none (given 3 (action-above (l .action))) e .1) .0)
-  not-refused-late w (Call.mark g) e = not-refused-stamp (w .latest) g e
+  not-refused-late w (Call.mark g) e = not-refused-stamp (w .latest) (g .stamp) e
 
   watched-append : (w : Watch) (a c : List Call) → watched p w (a ++ c) ≡ watched p (watched p w a) c
   unfolding watched
@@ -86,27 +85,28 @@ module _ (p : Property) where
       let late : t ≤ l .stamp = not-refused-late (blind-watch t) (Call.line l) (h .0) in
       let e : max t (l .stamp) ≡ l .stamp = omega arith in
       let skipped : with-line p (blind-watch t) l ≡ blind-watch (l .stamp) =
-      ap (λ (x : Bool). cond x (open-watch (l ∷ []) (l .stamp)) (blind-watch (l .stamp))) (ge-ltb (q .0)) in
+      ap (λ (x : Bool). cond x (open-watch (l ∷ []) (l .stamp)) (blind-watch (l .stamp))) (le-ltb _ _ (q .0)) in
       ap (λ (x : Watch). watched p x ks .is-blind) (not-refused-next (blind-watch t) (Call.line l) (h .0) ∙ skipped)
       ∙ stays-blind (l .stamp) ks (subst (λ (x : Watch). AllTaken p x ks) skipped (h .1)) (subst (λ (x : ℕ). Quiet p x ks) e (q .1))
   stays-blind t (Call.mark g ∷ ks) h q =
-      let late : t ≤ g = not-refused-late (blind-watch t) (Call.mark g) (h .0) in
-      let e : max t g ≡ g = omega arith in
+      let late : t ≤ g .stamp = not-refused-late (blind-watch t) (Call.mark g) (h .0) in
+      let e : max t (g .stamp) ≡ g .stamp = omega arith in
       ap (λ (x : Watch). watched p x ks .is-blind) (not-refused-next (blind-watch t) (Call.mark g) (h .0))
-      ∙ stays-blind g ks (h .1) (subst (λ (x : ℕ). Quiet p x ks) e q)
+      ∙ stays-blind (g .stamp) ks (h .1) (subst (λ (x : ℕ). Quiet p x ks) e q)
 
-  pub blind-until : (before between : List Call) (g : ℕ) → AllTaken p fresh (before ++ Call.mark g ∷ between)
+  pub blind-until : (before between : List Call) (g : Mark) → AllTaken p fresh (before ++ Call.mark g ∷ between)
       → Quiet p (highest 0 (before ++ Call.mark g ∷ [])) between → watched p fresh (before ++ Call.mark g ∷ between) .is-blind ≡ true
   unfolding watched AllTaken
   blind-until before between g h q =
       let r : AllTaken p fresh before × AllTaken p (watched p fresh before) (Call.mark g ∷ between) = taken-append fresh before (Call.mark g ∷ between) h in
       let w : Watch = watched p fresh before in
-      let top : highest 0 (before ++ Call.mark g ∷ []) ≡ g = sym (latest-highest fresh (before ++ Call.mark g ∷ []) (marked (r .0) (r .1 .0))) ∙ last-mark (r .1 .0) in
+      let top : highest 0 (before ++ Call.mark g ∷ []) ≡ g .stamp =
+      sym (latest-highest fresh (before ++ Call.mark g ∷ []) (marked (r .0) (r .1 .0))) ∙ last-mark (r .1 .0) in
       ap (λ (x : Watch). x .is-blind) (watched-append fresh before (Call.mark g ∷ between))
       ∙ ap (λ (x : Watch). watched p x between .is-blind) (not-refused-next w (Call.mark g) (r .1 .0))
-      ∙ stays-blind g between (r .1 .1) (subst (λ (t : ℕ). Quiet p t between) top q)
+      ∙ stays-blind (g .stamp) between (r .1 .1) (subst (λ (t : ℕ). Quiet p t between) top q)
     where
-      last-mark : refusal p (watched p fresh before) (Call.mark g) ≡ 0 → watched p fresh (before ++ Call.mark g ∷ []) .latest ≡ g
+      last-mark : refusal p (watched p fresh before) (Call.mark g) ≡ 0 → watched p fresh (before ++ Call.mark g ∷ []) .latest ≡ g .stamp
       last-mark e =
           ap (λ (x : Watch). x .latest) (watched-append fresh before (Call.mark g ∷ []))
           ∙ ap (λ (x : Watch). x .latest) (not-refused-next (watched p fresh before) (Call.mark g) e)
@@ -187,7 +187,7 @@ lost-below t l [] x c m = absurd m
 lost-below t l (Event.line k ∷ a) x c m = absurd m
 lost-below t l (Event.lost k ∷ a) x c m = lost-below t l a x c m
 lost-below t l (Event.mark g ∷ a) x c m =
-    let h : l .stamp ≤ g = m in le-trans (le-trans h (upper t g)) (highest-above (max t g) (fed a))
+    let h : l .stamp ≤ g .stamp = m in le-trans (le-trans h (upper t (g .stamp))) (highest-above (max t (g .stamp)) (fed a))
   where
     upper : (s u : ℕ) → u ≤ max s u
     upper s u = omega arith
@@ -201,7 +201,7 @@ all-below t (Event.line l ∷ a) x c m = also (le-trans (upper t (l .stamp)) (hi
     upper : (s u : ℕ) → u ≤ max s u
     upper s u = omega arith
 all-below t (Event.lost l ∷ a) x c m = also (lost-below t l a x c (m .0)) (all-below t a x c (m .1))
-all-below t (Event.mark g ∷ a) x c m = all-below (max t g) a x c m
+all-below t (Event.mark g ∷ a) x c m = all-below (max t (g .stamp)) a x c m
 
 -- ---- demand 3's verdict
 
@@ -216,9 +216,12 @@ module _ (p : Property) (b : Bounds p) (earlier later : List Event) (x : Line) (
       let h : AllTaken p fresh (fed earlier) × AllTaken p w (Call.line x ∷ fed later) =
       taken-append p fresh (fed earlier) (Call.line x ∷ fed later) (subst (AllTaken p fresh) e takes) in
       let top : w .latest ≡ highest 0 (fed earlier) = latest-highest p fresh (fed earlier) (h .0) in
-      let far : beyond p (w .latest) (x .stamp) ≡ true = lt-ltb (subst (λ (t : ℕ). t + 2 * p .UB < x .stamp) (sym top) boundary) in
+      let far : beyond p (w .latest) (x .stamp) ≡ true = lt-ltb _ _ (subst (λ (t : ℕ). t + 2 * p .UB < x .stamp) (sym top) boundary) in
       let begins : taken p w (Call.line x) ≡ open-watch (x ∷ []) (x .stamp) =
-      ap (λ (t : Bool). cond t (cond (beyond p (w .latest) (x .stamp)) (open-watch (x ∷ []) (x .stamp)) (blind-watch (x .stamp))) (open-watch (w .run ++ x ∷ []) (x .stamp))) was-blind
+      ap
+      (λ (t : Bool).
+      cond t (cond (beyond p (w .latest) (x .stamp)) (open-watch (x ∷ []) (x .stamp)) (blind-watch (x .stamp))) (open-watch (w .run ++ x ∷ []) (x .stamp)))
+      was-blind
       ∙ ap (λ (t : Bool). cond t (open-watch (x ∷ []) (x .stamp)) (blind-watch (x .stamp))) far in
       let r : ((t : ℕ) × (watched p (open-watch (x ∷ []) (x .stamp)) (fed later) ≡ open-watch (x ∷ call-lines (fed later)) t)) =
       runs-on p (x ∷ []) (x .stamp) (fed later) (subst (λ (v : Watch). AllTaken p v (fed later)) begins (h .1 .1)) no-mark in
@@ -243,11 +246,20 @@ module _ (p : Property) (b : Bounds p) (earlier later : List Event) (x : Line) (
       let rising : StampsFrom 0 (all-lines earlier ++ x ∷ all-lines later) = subst (StampsFrom 0) e (premises .never-fall) in
       let low : All (λ (z : Line). z .stamp ≤ highest 0 (fed earlier)) (all-lines earlier) = all-below 0 earlier x later (premises .lost-marked) in
       subst (λ (r : Run). VerdictFor (BreaksAfter p (all-lines earlier)) p r v) (sym e)
-      (whole-verdict p b (x .stamp) (all-lines earlier) (x ∷ all-lines later)
-      (all-map (λ z q. let q′ : z .stamp ≤ highest 0 (fed earlier) = q in let far : highest 0 (fed earlier) + 2 * p .UB < x .stamp = boundary in omega arith) low)
-      (also (le-refl (x .stamp)) (from-all (all-lines later) (from-right 0 (all-lines earlier) (x ∷ all-lines later) rising .1)))
+      (whole-verdict b
+      (record {
+        inputs = all-ins (all-map early low);
+        outputs = all-outs (all-map not-after low);
+        late = also (le-refl (x .stamp)) (from-all (all-lines later) (from-right 0 (all-lines earlier) (x ∷ all-lines later) rising .1));
+      })
       rising v
       (subst (λ (w : Watch). Standing p w v) (run-then .1) s))
+    where
+      early : (z : Line) → z .stamp ≤ highest 0 (fed earlier) → z .stamp + 2 * p .UB < x .stamp
+      early z q = let far : highest 0 (fed earlier) + 2 * p .UB < x .stamp = boundary in omega arith
+
+      not-after : (z : Line) → z .stamp ≤ highest 0 (fed earlier) → z .stamp ≤ x .stamp
+      not-after z q = let far : highest 0 (fed earlier) + 2 * p .UB < x .stamp = boundary in omega arith
 
 -- ---- what is refused alters nothing
 

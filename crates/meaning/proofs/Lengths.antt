@@ -1,18 +1,22 @@
--- A set of matched lengths, with or without broken, stands for states of the matcher.
+-- A set of matched lengths, with or without broken, stands for states of the matcher: the reading in use.
 use Prim.Native.Nat.{ℕ, zero, suc, _≤_, _<_}
-use mathlib.Core.Path.{_≡_, refl, sym, _∙_, ap, subst}
+use mathlib.Core.Path.{_≡_, refl, sym, ap, subst}
 use mathlib.Core.Logic.{_↔_, _⊎_, inl, inr}
-use mathlib.Core.Bool.{Bool, true, false, cond, _&&_, _||_, true≢false}
-use mathlib.Core.List.{List}
+use mathlib.Core.Bool.{Bool, true, false, cond, _&&_, true≢false}
 use native.Mathlib.Omega.{arith}
 use lib.ListN.{length}
 use lib.Dec.{eqb, ltb}
+use borrow.Author.Tests.{ltb-true, eqb-true, eq-eqb}
 use Rattle.meaning.specs.Words.{Action, Property, Line}
-use Rattle.meaning.specs.Matcher.{same, place, ends, goes-on, fall-back, matched-next, State, outside, state-next, is-broken, is-matched, Lengths, at-start, none-of, either, moved, some-to, some-length}
-use Rattle.meaning.specs.Step.{Sets, lengths}
-use Rattle.meaning.proofs.Tests.{both, and-true, or-cases, or-left, or-right, eqb-eq, eq-eqb, ltb-lt, some-to-found, some-to-here}
-use Rattle.meaning.proofs.Sets.{Matcher, SetLaws}
-use Rattle.meaning.proofs.Matching.{state-matcher}
+use Rattle.meaning.specs.Matcher.{same, place, ends, goes-on, fall-back, matched-next, State, outside, state-next}
+use Rattle.meaning.specs.Matcher.{is-broken, is-matched, Lengths, at-start, none-of, either, moved, some-to, some-length}
+use Rattle.meaning.specs.Step.{lengths}
+use Rattle.meaning.specs.Node.{Breaks}
+use Rattle.meaning.specs.Numbers.{property-refusal}
+use Rattle.meaning.proofs.Pairs.{good-bounds}
+use Rattle.meaning.proofs.Tests.{both, and-true, or-cases, or-left, or-right, some-to-found, some-to-here}
+use Rattle.meaning.proofs.Sets.{SetLaws, Reading}
+use Rattle.meaning.proofs.Matching.{state-matcher, matcher-reads}
 
 -- a matched length is never above the sequence's
 fall-back-le : (s : ℕ → Action) (n k : ℕ) (a : Action) (j : ℕ) → fall-back s n k a j ≤ n
@@ -20,12 +24,12 @@ unfolding fall-back
 fall-back-le s n k a zero = go (goes-on s n k zero a) refl
   where
     go : (t : Bool) → goes-on s n k zero a ≡ t → cond t 1 0 ≤ n
-    go true e = let h : 0 < n = ltb-lt (both (ltb zero n) (same (s zero) a) (both (ltb zero n && same (s zero) a) (ends s zero k) e .0) .0) in h
+    go true e = let h : 0 < n = ltb-true zero n (both (ltb zero n) (same (s zero) a) (both (ltb zero n && same (s zero) a) (ends s zero k) e .0) .0) in h
     go false e = omega arith
 fall-back-le s n k a (suc j) = go (goes-on s n k (suc j) a) refl (fall-back-le s n k a j)
   where
     go : (t : Bool) → goes-on s n k (suc j) a ≡ t → fall-back s n k a j ≤ n → cond t (suc (suc j)) (fall-back s n k a j) ≤ n
-    go true e h = ltb-lt (both (ltb (suc j) n) (same (s (suc j)) a) (both (ltb (suc j) n && same (s (suc j)) a) (ends s (suc j) k) e .0) .0)
+    go true e h = ltb-true (suc j) n (both (ltb (suc j) n) (same (s (suc j)) a) (both (ltb (suc j) n && same (s (suc j)) a) (ends s (suc j) k) e .0) .0)
     go false e h = h
 
 module _ (p : Property) where
@@ -34,11 +38,11 @@ module _ (p : Property) where
   Member a State.broken = a .with-broken ≡ true
 
   pub is-matched-eq : (j : ℕ) (q : State) → is-matched j q ≡ true → q ≡ State.matched j
-  is-matched-eq j (State.matched k) e = ap State.matched (eqb-eq e)
+  is-matched-eq j (State.matched k) e = ap State.matched (eqb-true k j e)
   is-matched-eq j State.broken e = absurd (true≢false (sym e))
 
   eq-is-matched : (j : ℕ) (q : State) → q ≡ State.matched j → is-matched j q ≡ true
-  eq-is-matched j q e = subst (λ (x : State). is-matched j x ≡ true) (sym e) (eq-eqb {m = j} refl)
+  eq-is-matched j q e = subst (λ (x : State). is-matched j x ≡ true) (sym e) (eq-eqb j j refl)
 
   is-broken-eq : (q : State) → is-broken q ≡ true → q ≡ State.broken
   is-broken-eq (State.matched k) e = absurd (true≢false (sym e))
@@ -71,7 +75,7 @@ module _ (p : Property) where
       }
     where
       start : (q : State) → Member at-start q ↔ (q ≡ State.matched 0)
-      start (State.matched k) = (λ m. ap State.matched (eqb-eq (m .1)), λ e. let z : k ≡ 0 = cc in (omega arith, eq-eqb {m = k} {n = 0} z))
+      start (State.matched k) = (λ m. ap State.matched (eqb-true k 0 (m .1)), λ e. let z : k ≡ 0 = cc in (omega arith, eq-eqb k 0 z))
       start State.broken = (λ m. absurd (true≢false (sym m)), λ e. absurd (matched-not-broken 0 (sym e)))
 
       none : (q : State) → ¬ Member none-of q
@@ -154,3 +158,8 @@ module _ (p : Property) where
           from : (q : State) → Member a q → is-broken q ≡ false → some-length p a ≡ true
           from (State.matched k) m e = some-to-here (length (p .sequence)) (a .at) k (m .0) (m .1)
           from State.broken m e = absurd (true≢false e)
+
+-- The reading in use, of a property that no refusal names.
+abbrev pub lengths-reading : (p : Property) → property-refusal p ≡ 0 → Reading p (Breaks p)
+lengths-reading p good =
+    record { bounds = good-bounds p good; matcher = state-matcher p; sets = lengths p; laws = length-laws p; reads = matcher-reads p }

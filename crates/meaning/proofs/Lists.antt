@@ -1,8 +1,9 @@
 -- Lists of lines: what holds of all, the two channels of a joined list, lists taken apart at their end.
-use Prim.Native.Nat.{ℕ, suc, _+_, _≤_}
+use Prim.Native.Nat.{ℕ, _≤_}
 use native.Mathlib.Nat.{le-trans}
-use mathlib.Core.Path.{Path, _≡_, refl, sym, _∙_, ap}
-use mathlib.Core.List.{List, [], _∷_, _++_, append-nil, append-assoc, head-eq-of-cons-eq, tail-eq-of-cons-eq, nil≢cons}
+use mathlib.Core.Path.{Path, _≡_, refl, sym, ap}
+use mathlib.Core.Logic.{_⊎_, inl, inr}
+use mathlib.Core.List.{List, [], _∷_, _++_, map, append-assoc, head-eq-of-cons-eq, tail-eq-of-cons-eq, nil≢cons}
 use Rattle.meaning.specs.Words.{Action, Line, StampsFrom}
 use Rattle.meaning.specs.Node.{keep-input, keep-output, ins, outs}
 
@@ -77,6 +78,34 @@ module _ {A : Type 0} where
       let h : z ≡ w = head-eq-of-cons-eq e in
       (cc (r .0), r .1)
 
+-- a list of images taken apart
+pub map-split : {A B : Type 0} (f : A → B) (xs : List A) (cs ds : List B) → map f xs ≡ cs ++ ds
+    → (us : List A) × (vs : List A) × (xs ≡ us ++ vs) × (map f us ≡ cs) × (map f vs ≡ ds)
+map-split f xs [] ds e = ([], xs, refl, refl, e)
+map-split f [] (c ∷ cs) ds e = absurd (nil≢cons e)
+map-split {A} f (x ∷ xs) (c ∷ cs) ds e = go (map-split f xs cs ds (tail-eq-of-cons-eq e))
+  where
+    go : ((us : List A) × (vs : List A) × (xs ≡ us ++ vs) × (map f us ≡ cs) × (map f vs ≡ ds))
+        → (us : List A) × (vs : List A) × (x ∷ xs ≡ us ++ vs) × (map f us ≡ c ∷ cs) × (map f vs ≡ ds)
+    go r =
+        let h : f x ≡ c = head-eq-of-cons-eq e in
+        (x ∷ r .0, r .1, ap (λ l. x ∷ l) (r .2), cc (h, r .3), r .4)
+
+-- two ways to split one list
+pub two-splits : {A : Type 0} (u f v w : List A) → u ++ f ≡ v ++ w
+    → ((m : List A) × (v ≡ u ++ m) × (f ≡ m ++ w)) ⊎ ((y : A) × (m : List A) × (u ≡ v ++ y ∷ m) × (w ≡ y ∷ (m ++ f)))
+two-splits [] f v w e = inl (v, refl, e)
+two-splits (x ∷ u) f [] w e = inr (x, u, refl, sym e)
+two-splits {A} (x ∷ u) f (z ∷ v) w e = go (two-splits u f v w (tail-eq-of-cons-eq e))
+  where
+    same : x ≡ z
+    same = head-eq-of-cons-eq e
+
+    go : ((m : List A) × (v ≡ u ++ m) × (f ≡ m ++ w)) ⊎ ((y : A) × (m : List A) × (u ≡ v ++ y ∷ m) × (w ≡ y ∷ (m ++ f)))
+        → ((m : List A) × (z ∷ v ≡ x ∷ u ++ m) × (f ≡ m ++ w)) ⊎ ((y : A) × (m : List A) × (x ∷ u ≡ z ∷ v ++ y ∷ m) × (w ≡ y ∷ (m ++ f)))
+    go (inl r) = inl (r .0, cc (same, r .1), r .2)
+    go (inr r) = inr (r .0, r .1, cc (same, r .2), r .3)
+
 -- the two channels of joined lists
 pub ins-append : (u v : List Line) → ins (u ++ v) ≡ ins u ++ ins v
 ins-append [] v = refl
@@ -111,15 +140,15 @@ pub all-outs : {P : Line → Type 0} {u : List Line} → All P u → All P (outs
 all-outs done = done
 all-outs (also {x} h r) = keep-out x (x .action) h (all-outs r)
 
-kept : {P : Line → Type 0} (a : Action) (l : Line) (i o : List Line) → All P (keep-input a l i) → All P (keep-output a l o)
+one-channel : {P : Line → Type 0} (a : Action) (l : Line) (i o : List Line) → All P (keep-input a l i) → All P (keep-output a l o)
     → P l × All P i × All P o
-kept (Action.input j) l i o (also h r) k = (h, r, k)
-kept (Action.output j) l i o h (also k r) = (k, h, r)
+one-channel (Action.input j) l i o (also h r) k = (h, r, k)
+one-channel (Action.output j) l i o h (also k r) = (k, h, r)
 
 pub all-channels : {P : Line → Type 0} (u : List Line) → All P (ins u) → All P (outs u) → All P u
 all-channels [] h k = done
 all-channels {P} (l ∷ u) h k =
-    let r : P l × All P (ins u) × All P (outs u) = kept (l .action) l (ins u) (outs u) h k in
+    let r : P l × All P (ins u) × All P (outs u) = one-channel (l .action) l (ins u) (outs u) h k in
     also (r .0) (all-channels u (r .1) (r .2))
 
 -- stamps that never fall

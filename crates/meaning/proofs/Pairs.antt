@@ -1,19 +1,37 @@
 -- Moments can be given to an order exactly if each line may stand before each later one, as far as the two go.
-use Prim.Native.Nat.{ℕ, zero, suc, _+_, _*_, _≤_, max}
-use mathlib.Core.Path.{_≡_, refl, sym, _∙_, ap}
+use Prim.Native.Nat.{ℕ, _+_, _*_, _≤_, max}
 use mathlib.Core.List.{List, [], _∷_, _++_}
+use mathlib.Core.Path.{_≡_}
+use mathlib.Core.Bool.{false, _||_}
 use native.Mathlib.Omega.{arith}
+use lib.ListN.{length}
+use lib.Dec.{ltb}
+use borrow.Author.Tests.{ltb-false}
 use lib.IntN.{ℤ, pos, _-ℤ_}
 use lib.Signed.{_≤ℤ_}
-use Rattle.meaning.specs.Words.{Action, Property, Line, StampsFrom}
+use Rattle.laws.proofs.Tests.{or-split}
+use Rattle.meaning.specs.Limits.{last-bound}
+use Rattle.meaning.specs.Words.{Action, Property, Line}
 use Rattle.meaning.specs.Node.{Window, Given, NeverFall, Timed}
-use Rattle.meaning.proofs.Whole.{up, down, le-out, le-in, minus-sum}
-use Rattle.meaning.proofs.Lists.{All, done, also, all-head, all-tail, all-append, all-left, all-right, all-map, all-both, all-of, from-all}
+use Rattle.meaning.specs.Numbers.{length-outside, bounds-outside, property-refusal}
+use Rattle.meaning.proofs.Refusals.{none-first}
+use Rattle.meaning.proofs.Whole.{le-out, le-in, minus-sum}
+use Rattle.meaning.proofs.Lists.{All, done, also, all-head, all-tail, all-append, all-left, all-right, all-map, all-both, all-of}
 
 -- bounds that refusal 2 lets through, as far as the theorems need them
 pub record Bounds (p : Property) : Type 0 where
   pub least : 1 ≤ p .LB
   pub order : p .LB ≤ p .UB
+
+-- a property that no refusal names has such bounds
+pub good-bounds : (p : Property) → property-refusal p ≡ 0 → Bounds p
+good-bounds p e =
+    let f : bounds-outside (p .LB) (p .UB) ≡ false =
+    none-first 1 (bounds-outside (p .LB) (p .UB)) (none-first 0 (length-outside (length (p .sequence))) e .1) .0 in
+    let g : (ltb (p .LB) 1 || ltb (p .UB) (p .LB) ≡ false) × (ltb last-bound (p .UB) ≡ false) =
+    or-split (ltb (p .LB) 1 || ltb (p .UB) (p .LB)) (ltb last-bound (p .UB)) f in
+    let h : (ltb (p .LB) 1 ≡ false) × (ltb (p .UB) (p .LB) ≡ false) = or-split (ltb (p .LB) 1) (ltb (p .UB) (p .LB)) (g .0) in
+    record { least = ltb-false (p .LB) 1 (h .0); order = ltb-false (p .UB) (p .LB) (h .1) }
 
 abbrev pub Stand : Property → Action → ℕ → Action → ℕ → Type 0
 Stand p (Action.input j) a (Action.input k) b = a + p .LB ≤ b + p .UB

@@ -1,11 +1,11 @@
 -- What a matcher is, and what it means that sets stand for what it may remember. The main theorem rests on these laws alone.
-use Prim.Native.Nat.{ℕ}
 use mathlib.Core.Path.{_≡_, refl}
 use mathlib.Core.Logic.{_↔_, _⊎_}
 use mathlib.Core.Bool.{Bool, true, false}
 use mathlib.Core.List.{List, [], _∷_, _++_}
-use Rattle.meaning.specs.Words.{Line}
+use Rattle.meaning.specs.Words.{Property, Line}
 use Rattle.meaning.specs.Step.{Sets}
+use Rattle.meaning.proofs.Pairs.{Bounds}
 
 pub record Matcher : Type 1 where
   pub State : Type 0
@@ -40,3 +40,12 @@ pub record SetLaws (M : Matcher) (𝓢 : Sets) : Type 1 where
       → Member (𝓢 .move a l) s ↔ ((r : M .State) × Member a r × (M .step r l ≡ s))
   pub some-broken : (a : 𝓢 .Set) → (𝓢 .some-broken a ≡ true) ↔ ((s : M .State) × Member a s × (M .is-broken s ≡ true))
   pub some-unbroken : (a : 𝓢 .Set) → (𝓢 .some-unbroken a ≡ true) ↔ ((s : M .State) × Member a s × (M .is-broken s ≡ false))
+
+-- How a property is read over cuts, for breaches of a sort: a matcher that has broken exactly where an order breaks, and
+-- sets that stand for what it may remember. All theorems over cuts take this one bundle.
+pub record Reading (p : Property) (Breaking : List Line → Type 0) : Type 1 where
+  pub bounds : Bounds p
+  pub matcher : Matcher
+  pub sets : Sets
+  pub laws : SetLaws matcher sets
+  pub reads : (order : List Line) → (matcher .is-broken (along matcher (matcher .begin) order) ≡ true) ↔ Breaking order

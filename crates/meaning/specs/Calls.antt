@@ -5,7 +5,7 @@ use mathlib.Core.Bool.{Bool, true, false, cond, not, _&&_}
 use mathlib.Core.List.{List, [], _∷_, _++_}
 use lib.Dec.{leb, ltb}
 use Rattle.meaning.specs.Limits.{last-stamp, most-open}
-use Rattle.meaning.specs.Words.{Action, Property, Line, Run}
+use Rattle.meaning.specs.Words.{Property, Line, Run}
 use Rattle.meaning.specs.Node.{ins, Verdict, IsVerdict, verdict-number}
 use Rattle.meaning.specs.Numbers.{given, first-of, action-above}
 
@@ -21,10 +21,17 @@ count-open p T (x ∷ rest) = cond (is-open p T x) (suc (count-open p T rest)) (
 abbrev pub open-at : Property → ℕ → Run → ℕ
 open-at p T run = count-open p T (ins run)
 
+-- Document 01, "Gaps": "A gap mark has a stamp g, not below the latest stamp."
+pub record Mark : Type 0 where
+  pub stamp : ℕ
+
 -- The two calls on a session.
 pub data Call : Type 0 where
   line : Line → Call
-  mark : ℕ → Call
+  mark : Mark → Call
+
+abbrev pub mark-at : ℕ → Call
+mark-at t = Call.mark (record { stamp = t })
 
 -- What the calls so far have come to: is the session blind, the run that is open (none while blind), the latest stamp.
 pub record Watch : Type 0 where
@@ -51,8 +58,8 @@ with-line p w l =
     (record { is-blind = false; run = w .run ++ l ∷ []; latest = l .stamp })
 
 -- The watch after a gap mark: "It closes the run .. and the session is blind."
-abbrev pub with-mark : Watch → ℕ → Watch
-with-mark w g = record { is-blind = true; run = []; latest = g }
+abbrev pub with-mark : Watch → Mark → Watch
+with-mark w g = record { is-blind = true; run = []; latest = g .stamp }
 
 -- "4: a stamp above 2^40 − 1", "5: a stamp below the latest"
 abbrev pub stamp-refusal : ℕ → ℕ → ℕ
@@ -65,9 +72,13 @@ line-refusal p w l =
     (first-of (stamp-refusal (w .latest) (l .stamp))
     (given 6 (not (w .is-blind) && ltb most-open (open-at p (l .stamp) (w .run ++ l ∷ [])))))
 
+-- The refusals of a gap mark, where the latest stamp is given.
+abbrev pub mark-refusal : ℕ → Mark → ℕ
+mark-refusal latest g = stamp-refusal latest (g .stamp)
+
 abbrev pub refusal : Property → Watch → Call → ℕ
 refusal p w (Call.line l) = line-refusal p w l
-refusal p w (Call.mark g) = stamp-refusal (w .latest) g
+refusal p w (Call.mark g) = mark-refusal (w .latest) g
 
 abbrev pub taken : Property → Watch → Call → Watch
 taken p w (Call.line l) = with-line p w l

@@ -5,7 +5,7 @@ use mathlib.Core.List.{List, [], _∷_}
 use lib.Dec.{eqb}
 use Rattle.meaning.specs.Words.{Action, Property}
 use Rattle.meaning.specs.Node.{Verdict, verdict-number}
-use Rattle.meaning.specs.Calls.{Call, fresh, watched, AllTaken, Standing, Answer, IsAnswer}
+use Rattle.meaning.specs.Calls.{Call, mark-at, fresh, watched, AllTaken, Standing, Answer, IsAnswer}
 
 -- "LB 10, UB 30. Property B: sequence ?0, allowed {!1}."
 abbrev pub B : Property
@@ -19,7 +19,7 @@ abbrev pub out : ℕ → ℕ → Call
 out k t = Call.line (record { action = Action.output k; stamp = t })
 
 abbrev pub gap : ℕ → Call
-gap g = Call.mark g
+gap t = mark-at t
 
 -- A case's number, calls, and the verdict that stands after them. Where a case gives a verdict after each line it has an entry for each.
 pub record Case : Type 0 where

@@ -1,18 +1,17 @@
 -- Demand 3's words: a full history, lost lines counted.
-use Prim.Native.Nat.{ℕ, zero, suc, _+_, _*_, _≤_, max}
+use Prim.Native.Nat.{ℕ, _+_, _*_, _≤_, max}
 use mathlib.Core.Path.{_≡_}
-use mathlib.Core.Bool.{Bool, false}
-use mathlib.Core.List.{List, [], _∷_, _++_, map}
+use mathlib.Core.List.{List, [], _∷_, _++_}
 use lib.ListN.{length}
-use Rattle.meaning.specs.Words.{Action, Property, Line, Run, StampsFrom}
-use Rattle.meaning.specs.Node.{ins, outs, Verdict, VerdictFor}
-use Rattle.meaning.specs.Calls.{Call}
+use Rattle.meaning.specs.Words.{Action, Property, Line, StampsFrom}
+use Rattle.meaning.specs.Node.{ins, outs, actions, Breach}
+use Rattle.meaning.specs.Calls.{Mark, Call}
 
 -- A full history is what the proxy saw, in the order of its log: lines that reached the watcher, lines that were lost, gap marks.
 pub data Event : Type 0 where
   line : Line → Event
   lost : Line → Event
-  mark : ℕ → Event
+  mark : Mark → Event
 
 -- What the watcher is fed.
 unfoldable pub fed : List Event → List Call
@@ -34,7 +33,7 @@ unfoldable pub MarkedBy : Line → List Event → Type 0
 MarkedBy l [] = ⊥
 MarkedBy l (Event.line k ∷ h) = ⊥
 MarkedBy l (Event.lost k ∷ h) = MarkedBy l h
-MarkedBy l (Event.mark g ∷ h) = l .stamp ≤ g
+MarkedBy l (Event.mark g ∷ h) = l .stamp ≤ g .stamp
 
 unfoldable pub LostMarked : List Event → Type 0
 LostMarked [] = Unit {0}
@@ -51,7 +50,7 @@ pub record Premises (h : List Event) : Type 0 where
 -- The highest stamp of "everything taken or marked", and of h.
 abbrev pub stamp-of : Call → ℕ
 stamp-of (Call.line l) = l .stamp
-stamp-of (Call.mark g) = g
+stamp-of (Call.mark g) = g .stamp
 
 unfoldable pub highest : ℕ → List Call → ℕ
 highest h [] = h
@@ -61,7 +60,7 @@ highest h (c ∷ rest) = highest (max h (stamp-of c)) rest
 unfoldable pub Quiet : Property → ℕ → List Call → Type 0
 Quiet p h [] = Unit {0}
 Quiet p h (Call.line l ∷ rest) = (l .stamp ≤ h + 2 * p .UB) × Quiet p (max h (l .stamp)) rest
-Quiet p h (Call.mark g ∷ rest) = Quiet p (max h g) rest
+Quiet p h (Call.mark g ∷ rest) = Quiet p (max h (g .stamp)) rest
 
 -- No gap mark among these.
 unfoldable pub NoMark : List Call → Type 0
@@ -83,7 +82,4 @@ pub record BreaksAfter (p : Property) (earlier : List Line) (order : List Line) 
   pub behind : List Line
   pub stands : order ≡ before ++ first ∷ behind
   pub begins : LoggedAfter earlier before (first .action)
-  pub answer : ℕ
-  pub after : List Action
-  pub occurs : map (λ (l : Line). l .action) (first ∷ behind) ≡ p .sequence ++ Action.output answer ∷ after
-  pub outside : p .allowed answer ≡ false
+  pub breach : Breach p (actions (first ∷ behind))

@@ -6,5 +6,6 @@ pub mod Numbers
 pub mod Calls
 pub mod Matcher
 pub mod Step
+pub mod Fronts
 pub mod History
 pub mod Cases

@@ -1,7 +1,7 @@
 -- Document 01, "What could have happened at the node".
-use Prim.Native.Nat.{ℕ, zero, suc, _+_, _*_, _≤_}
+use Prim.Native.Nat.{ℕ, suc, _+_, _*_, _≤_}
 use mathlib.Core.Path.{_≡_}
-use mathlib.Core.Bool.{Bool, false}
+use mathlib.Core.Bool.{false}
 use mathlib.Core.List.{List, [], _∷_, _++_, map}
 use lib.ListN.{length}
 use lib.IntN.{ℤ, pos, _+ℤ_, _-ℤ_}
@@ -86,13 +86,24 @@ pub record CutRule (p : Property) (run : Run) (i q : ℕ) : Type 0 where
   pub input-first : (x y : Line) → Numbered (ins run) i x → Numbered (outs run) (suc q) y → InputFirst p (x .stamp) (y .stamp)
   pub output-first : (x y : Line) → Numbered (ins run) (suc i) x → Numbered (outs run) q y → OutputFirst p (x .stamp) (y .stamp)
 
--- "An order breaks the property if the sequence occurs in it as neighbouring actions and the very next action is an output outside the allowed set."
-pub record Breaks (p : Property) (order : List Line) : Type 0 where
-  pub before : List Action
+-- The actions of a list of lines, in its order.
+abbrev pub actions : List Line → List Action
+actions lines = map (λ (l : Line). l .action) lines
+
+-- "An order breaks the property if the sequence occurs in it as neighbouring actions and the very next action is an output
+-- outside the allowed set." Of these actions the first are the sequence, and the very next one is such an output:
+pub record Breach (p : Property) (behind : List Action) : Type 0 where
   pub answer : ℕ
   pub after : List Action
-  pub occurs : map (λ (l : Line). l .action) order ≡ before ++ (p .sequence ++ Action.output answer ∷ after)
+  pub occurs : behind ≡ p .sequence ++ Action.output answer ∷ after
   pub outside : p .allowed answer ≡ false
+
+-- and the order breaks if what stands behind some place in it is such a breach.
+pub record Breaks (p : Property) (order : List Line) : Type 0 where
+  pub before : List Line
+  pub behind : List Line
+  pub stands : order ≡ before ++ behind
+  pub breach : Breach p (actions behind)
 
 -- "0 clear, no explanation breaks; 1 suspect, some break and some don't; 2 certain, all break; 3 blind, no run is open"
 pub data Verdict : Type 0 where
@@ -112,10 +123,10 @@ pub record Some (p : Property) (run : Run) (Holds : List Line → Type 0) : Type
 
 -- The verdict on a run, for breaches of a sort.
 abbrev pub VerdictFor : (List Line → Type 0) → Property → Run → Verdict → Type 0
-VerdictFor Breach p run Verdict.clear = (order : List Line) → Explanation p run order → ¬ Breach order
-VerdictFor Breach p run Verdict.suspect = Some p run Breach × Some p run (λ order. ¬ Breach order)
-VerdictFor Breach p run Verdict.certain = (order : List Line) → Explanation p run order → Breach order
-VerdictFor Breach p run Verdict.blind = ⊥
+VerdictFor Breaking p run Verdict.clear = (order : List Line) → Explanation p run order → ¬ Breaking order
+VerdictFor Breaking p run Verdict.suspect = Some p run Breaking × Some p run (λ order. ¬ Breaking order)
+VerdictFor Breaking p run Verdict.certain = (order : List Line) → Explanation p run order → Breaking order
+VerdictFor Breaking p run Verdict.blind = ⊥
 
 -- The verdict on an open run.
 abbrev pub IsVerdict : Property → Run → Verdict → Type 0

@@ -1,6 +1,6 @@
 -- One step over cuts and matched lengths. It lists no orders: for each cut before or after an open input it keeps a set of
 -- what the matcher may remember there. How such sets are stored is a parameter (`Sets`); `lengths` is the one in use.
-use Prim.Native.Nat.{ℕ, zero, suc, _+_, _*_}
+use Prim.Native.Nat.{ℕ, _+_, _*_}
 use mathlib.Core.Bool.{Bool, true, false, cond, not, _&&_}
 use mathlib.Core.List.{List, [], _∷_}
 use lib.ListN.{length}
@@ -9,7 +9,7 @@ use Rattle.meaning.specs.Limits.{most-open}
 use Rattle.meaning.specs.Words.{Action, Property, Line}
 use Rattle.meaning.specs.Node.{Verdict, verdict-number}
 use Rattle.meaning.specs.Numbers.{given, first-of, action-above}
-use Rattle.meaning.specs.Calls.{is-open, beyond, stamp-refusal, unless-refused, Call, Answer, refused}
+use Rattle.meaning.specs.Calls.{is-open, beyond, stamp-refusal, mark-refusal, unless-refused, Mark, Call, Answer, refused}
 use Rattle.meaning.specs.Matcher.{Lengths, none-of, at-start, either, moved, some-length}
 
 -- Sets of what a matcher may remember.
@@ -120,8 +120,8 @@ module _ (p : Property) (𝓢 : Sets) where
       (record { is-blind = true; front = no-front; latest = l .stamp }))
       (record { is-blind = false; front = front-with (c .front) l; latest = l .stamp })
 
-  abbrev pub cuts-with-mark : Cuts (𝓢 .Set) → ℕ → Cuts (𝓢 .Set)
-  cuts-with-mark c g = record { is-blind = true; front = no-front; latest = g }
+  abbrev pub cuts-with-mark : Cuts (𝓢 .Set) → Mark → Cuts (𝓢 .Set)
+  cuts-with-mark c g = record { is-blind = true; front = no-front; latest = g .stamp }
 
   -- Refusals 3, 4, 5 and 6 of a line, in this order.
   abbrev pub cuts-line-refusal : Cuts (𝓢 .Set) → Line → ℕ
@@ -132,7 +132,7 @@ module _ (p : Property) (𝓢 : Sets) where
 
   abbrev pub cuts-refusal : Cuts (𝓢 .Set) → Call → ℕ
   cuts-refusal c (Call.line l) = cuts-line-refusal c l
-  cuts-refusal c (Call.mark g) = stamp-refusal (c .latest) g
+  cuts-refusal c (Call.mark g) = mark-refusal (c .latest) g
 
   abbrev pub cuts-taken : Cuts (𝓢 .Set) → Call → Cuts (𝓢 .Set)
   cuts-taken c (Call.line l) = cuts-with-line c l
