@@ -14,8 +14,8 @@ use Rattle.laws.specs.Places.{first, Shifted}
 use Rattle.laws.proofs.Places.{first-same, map-first, padded-is, length-first}
 use Rattle.meaning.specs.Words.{Action, Line}
 use Rattle.meaning.specs.Limits.{last-stamp}
-use Rattle.meaning.specs.Matcher.{Lengths, moved}
-use Rattle.meaning.specs.Step.{Held, Front}
+use Rattle.meaning.specs.Matcher.{Lengths}
+use Rattle.meaning.specs.Step.{Held, Front, lengths}
 use Rattle.property.specs.Meant.{action-of, meant}
 use Rattle.property.specs.declared.Property.{Property}
 use Rattle.matcher.specs.declared.sets.Cut.{Cut}
@@ -25,10 +25,7 @@ use Rattle.held.specs.Held.{line-at, Closes, Tidy}
 use Rattle.cuts.specs.declared.Row.{Row}
 use Rattle.cuts.specs.Steps.{line-of, front-closed, front-then, front-after}
 use Rattle.cuts.specs.Arrays.{row, cut-at, set-at, held-at, front-of, number-of, sets-of, Stored, RowTidy, Usable, Holds, Swept, Appended}
-use Rattle.cuts.proofs.Fronts.{closed-first, appended-first, open-after-output, open-after-input}
-
-front-same : (s s′ : Lengths) (l l′ : List (Held Lengths)) → s ≡ s′ → l ≡ l′ → _≡_ {A = Front Lengths} (record { before = s; held = l }) (record { before = s′; held = l′ })
-front-same s s′ l l′ e f = ap₂ (λ (x : Lengths) (y : List (Held Lengths)). record { before = x; held = y }) e f
+use Rattle.meaning.proofs.Fronts.{closed-first, input-by, open-after-output, open-after-input}
 
 -- Open inputs, or what comes after a line, by what stands at a place.
 line-same : (a b m n : ℕ) → a ≡ b → m ≡ n → _≡_ {A = Line} (record { action = Action.input a; stamp = m }) (record { action = Action.input b; stamp = n })
@@ -54,9 +51,11 @@ module _ (p : Property) (held acts held′ acts′ : List ℕ) (count t d : ℕ)
 
   pub front-left : front-of held′ acts′ (count - d) r′ ≡ front-closed p t (set-at r 0) (first (held-at held acts r) count)
   front-left =
-      front-same _ _ _ _ (ap set-of (cut-moved 0 ∙ ap (cut-at r) (add-zero d))) (first-same (held-at held′ acts′ r′) (λ i. held-at held acts r (d + i)) (count - d) (λ i l. held-moved i))
+      ap₂ (λ (s : Lengths) (l : List (Held Lengths)). record { before = s; held = l })
+      (ap set-of (cut-moved 0 ∙ ap (cut-at r) (add-zero d)))
+      (first-same (held-at held′ acts′ r′) (λ i. held-at held acts r (d + i)) (count - d) (λ i l. held-moved i))
       ∙ sym
-      (closed-first (meant p) t (line-at held acts) (set-at r) d count (closes .within)
+      (closed-first (meant p) (lengths (meant p)) t (line-at held acts) (set-at r) d count (closes .within)
       (λ i l. lt-leb t (getD held i 0 + 2 * p .ub) (closes .closed i l))
       (λ l. le-leb t (getD held d 0 + 2 * p .ub) (closes .next l)))
 
@@ -95,25 +94,21 @@ module _ (p : Property) (held acts : List ℕ) (count act t : ℕ) (r r′ : Row
   last-moved : Moved p (cut-at r count) (Action.input act) (cut-at r′ (suc count))
   last-moved = new .moved (usable .row-tidy .masks-long) (usable .row-tidy .marks-long)
 
-  held-before : (i : ℕ) → i < count → held-at held acts r i ≡ held-at (set held count t) (set acts count act) r′ i
-  held-before i h =
-      held-same _ _ _ _
-      (line-same _ _ _ _ (sym (getD-set-other acts count i act 0 (λ (w : i ≡ count). omega arith))) (sym (getD-set-other held count i t 0 (λ (w : i ≡ count). omega arith))))
-      (ap set-of (sym (cut-kept (suc i) (λ (w : suc i ≡ suc count). omega arith))))
+  line-kept : (i : ℕ) → i < count → line-at held acts i ≡ line-at (set held count t) (set acts count act) i
+  line-kept i h =
+      line-same _ _ _ _ (sym (getD-set-other acts count i act 0 (λ (w : i ≡ count). omega arith))) (sym (getD-set-other held count i t 0 (λ (w : i ≡ count). omega arith)))
 
-  held-last : _≡_ {A = Held Lengths} (record { line = line-of false act t; after = moved (meant p) (set-at r count) (line-of false act t) })
-      (held-at (set held count t) (set acts count act) r′ count)
-  held-last =
-      held-same _ _ _ _
-      (line-same _ _ _ _ (sym (getD-set-same acts count act 0 (let l : length acts ≡ 64 = usable .tidy .acts-long in omega arith))) (sym (getD-set-same held count t 0 (let l : length held ≡ 64 = usable .tidy .held-long in omega arith))))
-      (sym (last-moved .set t))
+  line-last : line-of false act t ≡ line-at (set held count t) (set acts count act) count
+  line-last =
+      line-same _ _ _ _ (sym (getD-set-same acts count act 0 (let l : length acts ≡ 64 = usable .tidy .acts-long in omega arith))) (sym (getD-set-same held count t 0 (let l : length held ≡ 64 = usable .tidy .held-long in omega arith)))
 
   appended-holds : Holds p (front-then p (Action.input act) (line-of false act t) (front-of held acts count r)) (set held count t) (set acts count act) (suc count) r′
   appended-holds =
       record {
         front =
-            front-same _ _ _ _ (ap set-of (cut-kept 0 (λ (w : 0 ≡ suc count). omega arith)))
-            (sym (appended-first (meant p) (line-of false act t) (line-at held acts) (set-at r) (held-at (set held count t) (set acts count act) r′) count held-before held-last));
+            sym
+            (input-by (meant p) (lengths (meant p)) act (line-of false act t) (line-at held acts) (line-at (set held count t) (set acts count act)) (set-at r) (set-at r′) count
+            line-kept line-last (λ i h. ap set-of (sym (cut-kept i (λ (w : i ≡ suc count). omega arith)))) (sym (last-moved .set t)));
         usable =
             record {
               formed = usable .formed;
@@ -177,21 +172,21 @@ module _ (p : Property) (held acts : List ℕ) (count act t d : ℕ) (r : Row) (
   closed-is : front-closed p t (set-at r 0) (first (held-at held acts r) count)
       ≡ record { before = set-at r d; held = first (λ i. held-at held acts r (d + i)) (count - d) }
   closed-is =
-      closed-first (meant p) t (line-at held acts) (set-at r) d count (closes .within)
+      closed-first (meant p) (lengths (meant p)) t (line-at held acts) (set-at r) d count (closes .within)
       (λ i l. lt-leb t (getD held i 0 + 2 * p .ub) (closes .closed i l))
       (λ l. le-leb t (getD held d 0 + 2 * p .ub) (closes .next l))
 
   pub open-at-output : (out : Bool) → out ≡ true → count - d ≡ length (front-after p (front-of held acts count r) (line-of out act t) .held)
   open-at-output out q =
       sym (length-first (λ i. held-at held acts r (d + i)) (count - d))
-      ∙ open-after-output (meant p) act (line-of true act t) _ _ closed-is
+      ∙ open-after-output (meant p) (lengths (meant p)) act (line-of true act t) _ _ closed-is
       ∙ ap (λ (o : Bool). length (front-after p (front-of held acts count r) (line-of o act t) .held)) (sym q)
 
   pub open-at-input : (out : Bool) → out ≡ false → count - d + 1 ≡ length (front-after p (front-of held acts count r) (line-of out act t) .held)
   open-at-input out q =
       add-one (count - d)
       ∙ ap suc (sym (length-first (λ i. held-at held acts r (d + i)) (count - d)))
-      ∙ open-after-input (meant p) act (line-of false act t) _ _ closed-is
+      ∙ open-after-input (meant p) (lengths (meant p)) act (line-of false act t) _ _ closed-is
       ∙ ap (λ (o : Bool). length (front-after p (front-of held acts count r) (line-of o act t) .held)) (sym q)
 
 -- ---- the way back: arrays that hold a front and nothing else are those stored for it

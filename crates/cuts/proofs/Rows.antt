@@ -21,7 +21,7 @@ use Rattle.held.specs.Held.{line-at}
 use Rattle.cuts.specs.declared.Row.{Row}
 use Rattle.cuts.specs.Steps.{line-of}
 use Rattle.cuts.specs.Arrays.{row, cut-at, set-at, held-at, RowTidy, SweptOne, Swept, Appended}
-use Rattle.cuts.proofs.Fronts.{swept-set, swept-first}
+use Rattle.meaning.proofs.Fronts.{swept-set, swept-first}
 
 -- ---- one cut stored
 
@@ -50,7 +50,7 @@ module _ (r : Row) (i : ℕ) (c : Cut) where
 module _ (p : Property) (held acts : List ℕ) (r₀ : Row) (act t : ℕ) where
   -- The sets of the cuts after the output, from the first.
   abbrev pub new-set : ℕ → Lengths
-  new-set i = swept-set (meant p) (line-of true act t) (moved (meant p) (set-at r₀ 0) (line-of true act t)) (held-at held acts r₀) i
+  new-set i = swept-set (meant p) (lengths (meant p)) (line-of true act t) (moved (meant p) (set-at r₀ 0) (line-of true act t)) (held-at held acts r₀) i
 
   -- The first i cuts have their new sets, and the others are as they were.
   pub record Sweeping (i : ℕ) (r : Row) : Type 0 where
@@ -112,7 +112,7 @@ module _ (p : Property) (held acts : List ℕ) (r₀ : Row) (act t : ℕ) where
             (s .swept 0 (omega arith) ∙ sym new-set-none)
             (first-same (held-at held acts r) (λ i. record { line = line-at held acts i; after = new-set (suc i) }) count
             (λ i h. ap (λ (x : Lengths). record { line = line-at held acts i; after = x }) (s .swept (suc i) (omega arith)))
-            ∙ sym (swept-first (meant p) (line-of true act t) (moved (meant p) (set-at r₀ 0) (line-of true act t)) (held-at held acts r₀) count));
+            ∙ sym (swept-first (meant p) (lengths (meant p)) (line-of true act t) (moved (meant p) (set-at r₀ 0) (line-of true act t)) (held-at held acts r₀) count));
         row-tidy =
             record {
               masks-long = s .long .0;

@@ -20,7 +20,7 @@ use Rattle.matcher.specs.Sets.{stepped}
 use Rattle.matcher.specs.Table.{action-at, row-of, IsTable}
 use Rattle.laws.proofs.Bits.{bit-low, bit-above, bit-or}
 use Rattle.matcher.proofs.Matching.{fall-back-le}
-use Rattle.matcher.proofs.Steps.{some-to-agree, some-to-none}
+use Rattle.meaning.proofs.Tests.{some-to-agree, some-to-none, some-to-last}
 use Rattle.laws.proofs.Places.{length-first}
 use Rattle.matcher.proofs.Formed.{formed-length}
 
@@ -53,12 +53,6 @@ left-out m n low =
     go zero h e = ap not (eq-eqb (m % 2 ^ n) m (omega arith))
     go (suc zero) h e = ap not (ne-eqb (m % 2 ^ n) m (λ (w : m % 2 ^ n ≡ m). let z : 0 < 2 ^ n = pow-pos n in omega arith))
     go (suc (suc q)) h e = let w : ⊥ = omega arith in absurd w
-
-some-to-last : (n : ℕ) (f : ℕ → Bool) → ((k : ℕ) → k < n → f k ≡ false) → some-to n f ≡ f n
-unfolding some-to
-some-to-last zero f h = refl
-some-to-last (suc n) f h =
-    ap (λ (b : Bool). f (suc n) || b) (some-to-none n f (λ k l. h k (omega arith))) ∙ or-false (f (suc n))
 
 module _ (p : Property) (formed : property-refusal (meant p) ≡ 0) (table : List ℕ) (is : IsTable p table) (out : Bool) (act at : ℕ)
     (row : at ≡ row-of out act) where

@@ -1,4 +1,4 @@
--- Laws of 'some length up to n', and one turn of a set's step: the lowest length is taken out of the set and its goal put in.
+-- One turn of a set's step: the lowest length is taken out of the set and its goal put in.
 use Prim.Native.Nat.{ℕ, zero, suc, _*_, _-_, _%_, _^_, _≤_, _<_}
 use mathlib.Core.Path.{_≡_, refl, sym, ap, ap₂, _∙_, subst}
 use mathlib.Core.Bool.{Bool, true, false, not, _&&_, _||_, or-assoc, or-comm, or-false, and-true, and-false}
@@ -10,20 +10,10 @@ use lib.Bits.{bitAnd, bitOr, or-lt}
 use lib.Count.{trailingZeros}
 use borrow.Author.Tests.{eq-eqb, ne-eqb, eqb-true, eqb-false}
 use Rattle.meaning.specs.Matcher.{some-to}
+use Rattle.meaning.proofs.Tests.{some-to-agree, some-to-none}
 use Rattle.laws.specs.Bits.{bit}
 use Rattle.matcher.specs.Sets.{stepped}
 use Rattle.laws.proofs.Bits.{bit-or, bit-one, bit-none, bit-rest, bit-width, lowest-in}
-
-pub some-to-agree : (n : ℕ) (f g : ℕ → Bool) → ((k : ℕ) → k ≤ n → f k ≡ g k) → some-to n f ≡ some-to n g
-unfolding some-to
-some-to-agree zero f g h = h zero (omega arith)
-some-to-agree (suc n) f g h =
-    ap₂ (λ (a b : Bool). a || b) (h (suc n) (omega arith)) (some-to-agree n f g (λ k l. h k (omega arith)))
-
-pub some-to-none : (n : ℕ) (f : ℕ → Bool) → ((k : ℕ) → k ≤ n → f k ≡ false) → some-to n f ≡ false
-unfolding some-to
-some-to-none zero f h = h zero (omega arith)
-some-to-none (suc n) f h = ap₂ (λ (a b : Bool). a || b) (h (suc n) (omega arith)) (some-to-none n f (λ k l. h k (omega arith)))
 
 -- One length apart from the others.
 apart : (s g : ℕ → Bool) (k i : ℕ) → Bool

@@ -18,7 +18,7 @@ use Rattle.meaning.specs.Node.{verdict-number}
 use Rattle.meaning.specs.Matcher.{State, state-next, is-matched, Lengths, some-to, none-of, at-start, either, moved}
 use Rattle.meaning.specs.Step.{lengths, verdict-of}
 use Rattle.meaning.specs.Numbers.{property-refusal}
-use Rattle.meaning.proofs.Tests.{not-true, eqb-eq, both, some-to-found, some-to-here}
+use Rattle.meaning.proofs.Tests.{not-true, both, some-to-found, some-to-here, some-to-none}
 use Rattle.meaning.proofs.Lengths.{is-matched-eq, next-le}
 use Rattle.laws.specs.Bits.{bit, mask-to}
 use Rattle.laws.proofs.Tests.{or-split, neither}
@@ -31,7 +31,6 @@ use Rattle.matcher.specs.Table.{action-at}
 use Rattle.matcher.specs.Sets.{set-of, cut-of, stray, Fits, set-verdict, Short}
 use Rattle.matcher.proofs.Formed.{formed-length}
 use Rattle.matcher.proofs.Moves.{set-by}
-use Rattle.matcher.proofs.Steps.{some-to-none}
 
 -- ---- words in their range
 
@@ -125,7 +124,7 @@ module _ (p : Words.Property) where
   none-short = record { none-above = λ k h. refl }
 
   pub start-short : Short p at-start
-  start-short = record { none-above = λ k h. not-true _ (λ e. let q : k ≡ 0 = eqb-eq e in let z : ⊥ = omega arith in z) }
+  start-short = record { none-above = λ k h. not-true _ (λ e. let q : k ≡ 0 = eqb-true k 0 e in let z : ⊥ = omega arith in z) }
 
   pub either-short : (s t : Lengths) → Short p s → Short p t → Short p (either s t)
   either-short s t hs ht = record { none-above = λ k h. neither (hs .none-above k h) (ht .none-above k h) }

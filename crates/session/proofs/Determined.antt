@@ -1,10 +1,10 @@
--- Each promise of a public call determines its answer and all that it was lent: two results allowed by it are equal. Assumes nothing.
+-- Each promise of a public call determines its answer and all that it was lent: two results allowed by it are equal.
 use Prim.Native.Nat.{ℕ}
 use mathlib.Core.Path.{_≡_, sym, _∙_, ap}
 use mathlib.Core.Bool.{Bool}
 use Rattle.meaning.specs.Calls.{Call}
 use Rattle.property.specs.declared.Property.{Property}
-use Rattle.cuts.specs.Arrays.{line-of}
+use Rattle.cuts.specs.Steps.{line-of}
 use Rattle.session.specs.declared.Session.{Session}
 use Rattle.session.specs.declared.Answer.{Answer}
 use Rattle.session.specs.declared.Stepped.{Stepped}
@@ -18,7 +18,7 @@ pub line-determined : (s : Session) (output : Bool) (action stamp : ℕ) (r r′
     → r ≡ stepped-of s (Call.line (line-of output action stamp)) → r′ ≡ stepped-of s (Call.line (line-of output action stamp)) → r ≡ r′
 line-determined s output action stamp r r′ e e′ = e ∙ sym e′
 
-pub mark-determined : (s : Session) (stamp : ℕ) (r r′ : Stepped) → r ≡ stepped-of s (Call.mark stamp) → r′ ≡ stepped-of s (Call.mark stamp) → r ≡ r′
+pub mark-determined : (s : Session) (stamp : ℕ) (r r′ : Stepped) → r ≡ stepped-of s (Call.mark (record { stamp = stamp })) → r′ ≡ stepped-of s (Call.mark (record { stamp = stamp })) → r ≡ r′
 mark-determined s stamp r r′ e e′ = e ∙ sym e′
 
 -- On lent arrays: the answer, and the record that they make up with the numbers beside them, so each of its arrays and numbers.

@@ -1,81 +1,72 @@
 -- The session record that calls on a fresh one have made is the record of the meaning's session over cuts.
 use Prim.Native.Nat.{ℕ, zero, suc}
-use mathlib.Core.Path.{_≡_, refl, _∙_, ap}
-use mathlib.Core.Bool.{Bool}
+use mathlib.Core.Path.{_≡_, refl, sym, _∙_, ap}
 use mathlib.Core.List.{List, [], _∷_}
-use Rattle.meaning.specs.Numbers.{property-refusal, given, first-of}
+use native.Mathlib.Omega.{arith}
+use Rattle.meaning.specs.Numbers.{property-refusal}
 use Rattle.meaning.specs.Calls.{Call, unless-refused}
 use Rattle.meaning.specs.Calls
 use Rattle.meaning.specs.Matcher.{Lengths}
-use Rattle.meaning.specs.Step.{Cuts, lengths, fresh-cuts, cuts-refusal, cuts-taken, cuts-next, cuts-told, cuts-answer, cuts-after, grown}
+use Rattle.meaning.specs.Step.{Cuts, cuts-after, grown}
+use Rattle.meaning.proofs.Refusals.{unless-taken, unless-kept}
 use Rattle.property.specs.Meant.{meant}
 use Rattle.property.specs.declared.Property.{Property}
+use Rattle.cuts.specs.Steps.{fresh-by, refusal-by, taken-by, next-by, told-by, answer-by, after-by}
 use Rattle.session.specs.declared.Stepped.{Stepped}
 use Rattle.session.specs.Record.{cuts-of, record-of}
 use Rattle.session.specs.Step.{answer-of, refusal-of, stepped-of, stepped-through}
-use Rattle.session.proofs.Range.{Fit, cuts-back, in-range, fresh-fit, next-fit}
+use Rattle.session.proofs.Fit.{Fit, cuts-back, in-range, fresh-fit, next-fit}
+use Rattle.session.proofs.Steps.{step-refused, step-taken, refusal-fits}
 
 module _ (p : Property) (good : property-refusal (meant p) ≡ 0) where
-  -- the refusals are those of the step
-  refusal-same : {c : Cuts Lengths} → Fit p c → (k : Call)
-      → refusal-of (record-of p c) k ≡ cuts-refusal (meant p) (lengths (meant p)) c k
-  unfolding refusal-of
-  refusal-same {c} s k =
-      ap (λ (t : Bool). first-of (given 10 t) (cuts-refusal (meant p) (lengths (meant p)) (cuts-of (record-of p c)) k)) (in-range p good s)
-      ∙ ap (λ (x : Cuts Lengths). cuts-refusal (meant p) (lengths (meant p)) x k) (cuts-back p good s)
+  -- What the step over cuts gives, in the record's terms.
+  abbrev pub step-over : Cuts Lengths → Call → Stepped
+  step-over c k = record { answer = answer-of (answer-by p c k); session = record-of p (next-by p c k) }
 
   -- one step of the record is one step over cuts
-  pub step-same : {c : Cuts Lengths} → Fit p c → (k : Call)
-      → _≡_ {A = Stepped} (stepped-of (record-of p c) k)
-      (record {
-        answer = answer-of (cuts-answer (meant p) (lengths (meant p)) c k);
-        session = record-of p (cuts-next (meant p) (lengths (meant p)) c k);
-      })
-  unfolding stepped-of
-  step-same {c} s k =
-      (λ i. made (refusal-same s k i) (cuts-back p good s i)) ∙ cases (cuts-refusal (meant p) (lengths (meant p)) c k)
+  pub step-same : {c : Cuts Lengths} → Fit p c → (k : Call) → stepped-of (record-of p c) k ≡ step-over c k
+  step-same {c} f k = go (refusal-by p c k) refl
     where
-      -- what is made at a refusal number and a session over cuts
-      made : ℕ → Cuts Lengths → Stepped
-      made n x =
-          unless-refused n
-          (record { answer = answer-of (cuts-told (meant p) (lengths (meant p)) x k); session = record-of p (cuts-taken (meant p) (lengths (meant p)) x k) })
-          (record { answer = answer-of (Calls.refused n); session = record-of p c })
+      back : cuts-of (record-of p c) ≡ c
+      back = cuts-back p good f
 
-      cases : (n : ℕ)
-          → _≡_ {A = Stepped} (made n c)
-          (record {
-            answer = answer-of (unless-refused n (cuts-told (meant p) (lengths (meant p)) c k) (Calls.refused n));
-            session = record-of p (unless-refused n (cuts-taken (meant p) (lengths (meant p)) c k) c);
-          })
-      cases zero = refl
-      cases (suc n) = refl
+      number : refusal-of (record-of p c) k ≡ refusal-by p c k
+      number = refusal-fits (record-of p c) k (in-range p good f) ∙ ap (λ (x : Cuts Lengths). refusal-by p x k) back
 
-  pub through-same : {c : Cuts Lengths} → Fit p c → (ks : List Call)
-      → stepped-through (record-of p c) ks ≡ record-of p (cuts-after (meant p) (lengths (meant p)) c ks)
+      go : (n : ℕ) → refusal-by p c k ≡ n → stepped-of (record-of p c) k ≡ step-over c k
+      go zero e =
+          step-taken (record-of p c) k (number ∙ e)
+          ∙ ap (λ (x : Cuts Lengths). record { answer = answer-of (told-by p x k); session = record-of p (taken-by p x k) }) back
+          ∙ sym
+          (λ i. record { answer = answer-of (unless-taken (refusal-by p c k) (told-by p c k) (Calls.refused (refusal-by p c k)) e i); session = record-of p (unless-taken (refusal-by p c k) (taken-by p c k) c e i) })
+      go (suc n) e =
+          step-refused (record-of p c) k (refusal-by p c k) number some
+          ∙ sym
+          (λ i. record { answer = answer-of (unless-kept (refusal-by p c k) (told-by p c k) (Calls.refused (refusal-by p c k)) some i); session = record-of p (unless-kept (refusal-by p c k) (taken-by p c k) c some i) })
+        where
+          some : refusal-by p c k ≡ 0 → ⊥
+          some z = let w : suc n ≡ 0 = sym e ∙ z in omega arith
+
+  through-same : {c : Cuts Lengths} → Fit p c → (ks : List Call) → stepped-through (record-of p c) ks ≡ record-of p (after-by p c ks)
   unfolding stepped-through cuts-after
-  through-same s [] = refl
-  through-same {c} s (k ∷ ks) =
-      ap (λ (r : Stepped). stepped-through (r .session) ks) (step-same s k) ∙ through-same (next-fit p good s k) ks
+  through-same f [] = refl
+  through-same {c} f (k ∷ ks) = ap (λ (r : Stepped). stepped-through (r .session) ks) (step-same f k) ∙ through-same (next-fit p good f k) ks
 
-  through-fit : {c : Cuts Lengths} → Fit p c → (ks : List Call) → Fit p (cuts-after (meant p) (lengths (meant p)) c ks)
+  through-fit : {c : Cuts Lengths} → Fit p c → (ks : List Call) → Fit p (after-by p c ks)
   unfolding cuts-after
-  through-fit s [] = s
-  through-fit s (k ∷ ks) = through-fit (next-fit p good s k) ks
+  through-fit f [] = f
+  through-fit f (k ∷ ks) = through-fit (next-fit p good f k) ks
 
   -- From a fresh session, after any calls: the record is that of the session over cuts,
-  pub grown-record : (ks : List Call)
-      → stepped-through (record-of p (fresh-cuts (meant p) (lengths (meant p)))) ks ≡ record-of p (grown (meant p) ks)
-  grown-record ks = through-same (fresh-fit p good) ks
+  pub grown-record : (ks : List Call) → stepped-through (record-of p (fresh-by p)) ks ≡ record-of p (grown (meant p) ks)
+  grown-record ks = through-same (fresh-fit p) ks
 
   -- which it stands for, and the next call's answer is that of the step.
   pub grown-stands : (ks : List Call) → cuts-of (record-of p (grown (meant p) ks)) ≡ grown (meant p) ks
-  grown-stands ks = cuts-back p good (through-fit (fresh-fit p good) ks)
+  grown-stands ks = cuts-back p good (through-fit (fresh-fit p) ks)
 
-  pub grown-step : (ks : List Call) (k : Call)
-      → _≡_ {A = Stepped} (stepped-of (record-of p (grown (meant p) ks)) k)
-      (record {
-        answer = answer-of (cuts-answer (meant p) (lengths (meant p)) (grown (meant p) ks) k);
-        session = record-of p (cuts-next (meant p) (lengths (meant p)) (grown (meant p) ks) k);
-      })
-  grown-step ks k = step-same (through-fit (fresh-fit p good) ks) k
+  pub grown-fit : (ks : List Call) → Fit p (grown (meant p) ks)
+  grown-fit ks = through-fit (fresh-fit p) ks
+
+  pub grown-step : (ks : List Call) (k : Call) → stepped-of (record-of p (grown (meant p) ks)) k ≡ step-over (grown (meant p) ks) k
+  grown-step ks k = step-same (grown-fit ks) k

@@ -1,55 +1,46 @@
--- Calls on what a fresh call gave back, in any order and with any numbers. Assumes nothing.
+-- Calls on what a fresh call gave back, in any order and with any numbers.
 use Prim.Native.Nat.{ℕ}
 use mathlib.Core.Path.{_≡_, refl, sym, _∙_, ap}
-use mathlib.Core.Bool.{true, not, _&&_}
+use mathlib.Core.Bool.{true, not}
 use mathlib.Core.List.{List}
 use borrow.Author.Tests.{ne-eqb}
 use native.Mathlib.Omega.{arith}
-use lib.Dec.{ltb}
-use Rattle.meaning.specs.Limits.{last-stamp, most-open}
 use Rattle.meaning.specs.Numbers.{property-refusal}
 use Rattle.meaning.specs.Calls.{Call}
 use Rattle.meaning.specs.Calls
-use Rattle.meaning.specs.Step.{lengths, fresh-cuts, cuts-next, cuts-answer, grown}
+use Rattle.meaning.specs.Step.{grown}
 use Rattle.property.specs.Meant.{meant}
 use Rattle.property.specs.declared.Property.{Property}
 use Rattle.property.proofs.Refusal.{length-refused}
+use Rattle.cuts.specs.Steps.{fresh-by, answer-by}
 use Rattle.session.specs.declared.Session.{Session}
 use Rattle.session.specs.declared.Stepped.{Stepped}
-use Rattle.session.specs.Record.{record-of, stamps-fall, length-above, out-of-range}
+use Rattle.session.specs.Record.{record-of, out-of-range}
 use Rattle.session.specs.Step.{answer-of, no-property, no-session, fresh-of, stepped-of, stepped-through}
-use Rattle.session.proofs.Range.{range-tests}
-use Rattle.session.proofs.Stepping.{named-refused, fresh-made, fresh-is, made-refused}
-use Rattle.session.proofs.Grown.{grown-record, grown-step}
+use Rattle.session.proofs.Range.{crowded, fallen, held-blind, late, too-long, range-tests}
+use Rattle.session.proofs.Steps.{named-refused, fresh-refused, fresh-taken}
+use Rattle.session.proofs.Grown.{step-over, grown-record, grown-step}
 
 module _ (p : Property) (good : property-refusal (meant p) ≡ 0) where
   -- the fresh call is taken
-  pub fresh-record : fresh-of p .session ≡ record-of p (fresh-cuts (meant p) (lengths (meant p)))
-  unfolding fresh-made
-  fresh-record = ap (λ (r : Stepped). r .session) (fresh-is p ∙ ap (fresh-made p) good)
+  pub fresh-record : fresh-of p .session ≡ record-of p (fresh-by p)
+  fresh-record = ap (λ (r : Stepped). r .session) (fresh-taken p good)
 
   -- The session after any calls is the record of the meaning's session over cuts,
   pub running-record : (ks : List Call) → stepped-through (fresh-of p .session) ks ≡ record-of p (grown (meant p) ks)
   running-record ks = ap (λ (s : Session). stepped-through s ks) fresh-record ∙ grown-record p good ks
 
   -- and the next call is one step of that session: its answer and the record after it.
-  pub running-step : (ks : List Call) (k : Call)
-      → _≡_ {A = Stepped} (stepped-of (stepped-through (fresh-of p .session) ks) k)
-      (record {
-        answer = answer-of (cuts-answer (meant p) (lengths (meant p)) (grown (meant p) ks) k);
-        session = record-of p (cuts-next (meant p) (lengths (meant p)) (grown (meant p) ks) k);
-      })
+  pub running-step : (ks : List Call) (k : Call) → stepped-of (stepped-through (fresh-of p .session) ks) k ≡ step-over p good (grown (meant p) ks) k
   running-step ks k = ap (λ (s : Session). stepped-of s k) (running-record ks) ∙ grown-step p good ks k
 
-  pub running-answer : (ks : List Call) (k : Call)
-      → stepped-of (stepped-through (fresh-of p .session) ks) k .answer ≡ answer-of (cuts-answer (meant p) (lengths (meant p)) (grown (meant p) ks) k)
+  pub running-answer : (ks : List Call) (k : Call) → stepped-of (stepped-through (fresh-of p .session) ks) k .answer ≡ answer-of (answer-by p (grown (meant p) ks) k)
   running-answer ks k = ap (λ (r : Stepped). r .answer) (running-step ks k)
 
 -- The session of zeros is one that refusal 10 names: its property has no action.
 pub zeros-named : out-of-range no-session ≡ true
 zeros-named =
-    range-tests no-session true (ltb most-open (no-session .count)) (stamps-fall (no-session .held) (no-session .count) (no-session .latest))
-    (no-session .blind && ltb 0 (no-session .count)) (ltb last-stamp (no-session .latest)) (not (no-session .blind) && length-above (no-session .masks) (no-session .count) 0)
+    range-tests no-session true (crowded no-session) (fallen no-session) (held-blind no-session) (late no-session) (too-long no-session)
     (ap not (ne-eqb (property-refusal (meant no-property)) 0 (λ e. none (sym (length-refused no-property refl) ∙ e)))) refl refl refl refl refl
   where
     none : _≡_ {A = ℕ} 1 0 → ⊥
@@ -64,4 +55,4 @@ refused-fresh-then p bad k =
     ∙ ap (λ (s : Session). record { answer = answer-of (Calls.refused 10); session = s }) (sym zeros)
   where
     zeros : fresh-of p .session ≡ no-session
-    zeros = ap (λ (r : Stepped). r .session) (fresh-is p ∙ made-refused p (property-refusal (meant p)) bad)
+    zeros = ap (λ (r : Stepped). r .session) (fresh-refused p (property-refusal (meant p)) refl bad)

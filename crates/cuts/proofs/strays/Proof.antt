@@ -6,8 +6,7 @@ use native.Mathlib.Nat.{not-suc-le-zero}
 use native.Mathlib.Omega.{arith}
 use borrow.Author.Needs.{needs}
 use borrow.Author.Count.{below-more}
-use Rattle.meaning.proofs.Tests.{some-to-here}
-use Rattle.matcher.proofs.Steps.{some-to-none}
+use Rattle.meaning.proofs.Tests.{some-to-here, some-to-none}
 use Rattle.matcher.specs.Sets.{stray}
 use Rattle.cuts.specs.Arrays.{row, cut-at}
 use Rattle.cuts.proofs.strays.Statement.{statement}

@@ -9,7 +9,8 @@ use Rattle.matcher.specs.declared.sets.Cut.{Cut}
 use Rattle.matcher.specs.Sets.{set-of, Fits, set-verdict}
 use Rattle.held.specs.Held.{line-at}
 use Rattle.cuts.specs.Arrays.{row, set-at}
-use Rattle.cuts.proofs.Fronts.{last-set-first}
+use Rattle.meaning.specs.Step.{lengths}
+use Rattle.meaning.proofs.Fronts.{last-set-first}
 use Rattle.cuts.proofs.verdict.Statement.{statement}
 use Rattle.cuts.proofs.verdict.Tie as tie
 
@@ -26,7 +27,7 @@ returns c =
     λ p held acts fit.
     c .verdict .ensures p (subst (Fits p) (sym (cut .ensures)) fit)
     ∙ ap (λ (x : Cut). verdict-number (set-verdict p (set-of x))) (cut .ensures)
-    ∙ ap (λ (s : Lengths). verdict-number (set-verdict p s)) (sym (last-set-first (meant p) (line-at held acts) (set-at (row (a .masks .now) (a .marks .now))) (a .count)))
+    ∙ ap (λ (s : Lengths). verdict-number (set-verdict p s)) (sym (last-set-first (meant p) (lengths (meant p)) (line-at held acts) (set-at (row (a .masks .now) (a .marks .now))) (a .count)))
 
 pub verdict-spec : {M : Type 1} → statement M
 verdict-spec = tie.close (tie.spec cut-at-requires verdict-requires returns)

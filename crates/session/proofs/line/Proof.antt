@@ -1,52 +1,95 @@
--- `session::line` meets its contract: refusal 10, or the step on its arrays. Assumes nothing.
-use mathlib.Core.Path.{sym, ap, _∙_}
-use borrow.Author.Needs.{needs}
+-- `session::line` meets its contract: refusal 10, or the call on its arrays, tidied.
+use mathlib.Core.Path.{_≡_, sym, ap, subst, _∙_}
+use mathlib.Core.Bool.{false}
 use Rattle.meaning.specs.Calls.{Call}
-use Rattle.cuts.specs.Arrays.{line-of}
-use Rattle.session.specs.declared.Answer.{Answer}
+use Rattle.session.specs.declared.Session.{Session}
+use Rattle.session.specs.declared.Stepped.{Stepped}
+use Rattle.session.specs.Record.{out-of-range}
+use Rattle.session.specs.Lent.{in-arrays, tidied, Ready, Advanced}
+use Rattle.session.proofs.Steps.{named-refused}
+use Rattle.session.proofs.Ready.{tidied-ready}
+use Rattle.session.proofs.Tidy.{by-value-taken, by-value-refused}
+use Rattle.cuts.specs.Steps.{line-of}
 use Rattle.session.proofs.Range.{ranged}
-use Rattle.session.proofs.Stepping.{named-refused}
+use borrow.Author.Needs.{needs}
 use Rattle.session.proofs.line.Statement.{statement}
 use Rattle.session.proofs.line.Tie as tie
+
+-- refusal 10 does not name the record
+fit : (e : tie.Else1) → out-of-range (e .before .before .args .s) ≡ false
+fit e = sym (e .before .unfit .ensures) ∙ e .if1 .left
+
+-- from the tidied arrays back to where refusal 10 was passed, and the call
+abbrev passed : tie.After-tidy → tie.Else1
+passed k = k .before .before .before .before .before .before .before .before .before .before .before .before .before .before
+
+abbrev given : tie.After-tidy → Session
+given k = passed k .before .before .args .s
+
+abbrev call : tie.After-tidy → Call
+call k = let a = passed k .before .before .args in Call.line (line-of (a .output) (a .action) (a .stamp))
+
+abbrev led : tie.After-line → Session
+led k =
+    in-arrays (given (k .before .before .before .before .before .before) .property) (k .line .last .1 .1 .0) (k .line .last .1 .1 .1 .0) (k .line .last .1 .1 .1 .1 .0) (k .line .last .1 .1 .1 .1 .1 .0) (k .line .result .status)
+
+advanced : (k : tie.After-line) → Advanced (tidied (given (k .before .before .before .before .before .before))) (call (k .before .before .before .before .before .before)) (k .line .result .answer) (led k)
+advanced k = subst (λ (x : Session). Advanced x (call (k .before .before .before .before .before .before)) (k .line .result .answer) (led k)) (k .before .before .before .before .before .before .tidy .ensures) (k .line .ensures)
 
 unfit-requires : tie.Need-unfit-requires
 unfit-requires c κs = search needs
 
-refused-requires : tie.Need-refused-requires
-refused-requires c κs = search needs
+unmoved-requires : tie.Need-unmoved-requires
+unmoved-requires c κs = search needs
 
 returns : tie.Need-returns
 returns c =
-    let a = c .before .before .before .args in
-    ap (λ (x : Answer). record { answer = x; session = a .s }) (c .refused .ensures)
-    ∙ sym (named-refused (a .s) (Call.line (line-of (a .output) (a .action) (a .stamp))) (sym (c .before .before .unfit .ensures) ∙ c .before .if1 .taken))
+    let e = c .before in
+    c .unmoved .ensures ∙ sym (named-refused (e .before .before .args .s) (Call.line (line-of (e .before .before .args .output) (e .before .before .args .action) (e .before .before .args .stamp))) (sym (e .before .unfit .ensures) ∙ e .if1 .taken))
 
 table-requires : tie.Need-table-requires
-table-requires c κs = ranged (c .before .before .before .args .s) (sym (c .before .before .unfit .ensures) ∙ c .before .if1 .left) .formed
+table-requires c κs =
+    ranged (c .before .before .before .before .before .args .s) (fit (c .before .before .before)) .formed
 
-advance-line-requires : tie.Need-advance-line-requires
-advance-line-requires c κs = (
-  record {
-    fits = sym (c .before .before .before .before .before .before .before .before .before .before .before .before .unfit .ensures) ∙ c .before .before .before .before .before .before .before .before .before .before .before .if1 .left;
-    whole = record { held-long = search needs; acts-long = search needs; masks-long = search needs; broken-long = search needs };
-  },
-  c .before .before .before .before .before .before .before .before .before .table .ensures,
-)
+tidy-requires : tie.Need-tidy-requires
+tidy-requires c κs =
+    (record { held-long = search needs; acts-long = search needs; masks-long = search needs; marks-long = search needs }, fit (c .before .before .before .before .before .before .before .before .before .before .before .before .before))
 
-put-back-requires : tie.Need-put-back-requires
-put-back-requires c κs = search needs
+line-requires : tie.Need-line-requires
+line-requires c κs =
+    let j = c .before .before .before .before .before in
+    (subst Ready (sym (j .tidy .ensures)) (tidied-ready (given j) (fit (passed j))), j .before .before .before .before .before .before .before .before .before .before .table .ensures)
+
+unmoved-requires-2 : tie.Need-unmoved-requires-2
+unmoved-requires-2 c κs = search needs
 
 returns-2 : tie.Need-returns-2
-returns-2 c = c .put-back .ensures ∙ sym (c .before .advance-line .ensures .stepped)
+returns-2 c =
+    let k = c .before .before .before .before in
+    let j = k .before .before .before .before .before .before in
+    c .unmoved2 .ensures ∙ by-value-refused (given j) (fit (passed j)) (call j) (k .line .result .answer) (led k) (advanced k) (c .before .if2 .taken)
+
+made-requires : tie.Need-made-requires
+made-requires c κs = search needs
+
+returns-3 : tie.Need-returns-3
+returns-3 c =
+    let k = c .before .before .before .before in
+    let j = k .before .before .before .before .before .before in
+    ap (λ (x : Session). record { answer = k .line .result .answer; session = x }) (c .made .ensures)
+    ∙ by-value-taken (given j) (fit (passed j)) (call j) (k .line .result .answer) (led k) (advanced k) (c .before .if2 .left)
 
 pub line-spec : {M : Type 1} → statement M
 line-spec =
     tie.close
     (tie.spec
     unfit-requires
-    refused-requires
+    unmoved-requires
     returns
     table-requires
-    advance-line-requires
-    put-back-requires
-    returns-2)
+    tidy-requires
+    line-requires
+    unmoved-requires-2
+    returns-2
+    made-requires
+    returns-3)

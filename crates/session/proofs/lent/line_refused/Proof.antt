@@ -1,10 +1,10 @@
--- `session::line_refused` meets its contract: refusal 3 stands before those of the stamp. Assumes nothing.
+-- `session::lent::line_refused` meets its contract: refusal 3 stands before those of the stamp.
 use native.Mathlib.Omega.{arith}
 use borrow.Author.Needs.{needs}
 use borrow.Author.Tests.{lt-ltb, le-ltb}
 use Rattle.meaning.specs.Limits.{last-action}
-use Rattle.session.proofs.line_refused.Statement.{statement}
-use Rattle.session.proofs.line_refused.Tie as tie
+use Rattle.session.proofs.lent.line_refused.Statement.{statement}
+use Rattle.session.proofs.lent.line_refused.Tie as tie
 
 returns : tie.Need-returns
 returns c = simp (lt-ltb last-action (c .before .args .act) (omega arith))

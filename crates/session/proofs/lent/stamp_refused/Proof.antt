@@ -1,9 +1,9 @@
--- `session::stamp_refused` meets its contract: the tests that led to a `return` say which refusal is the first. Assumes nothing.
+-- `session::lent::stamp_refused` meets its contract: the tests that led to a `return` say which refusal is the first.
 use native.Mathlib.Omega.{arith}
 use borrow.Author.Tests.{lt-ltb, le-ltb}
 use Rattle.meaning.specs.Limits.{last-stamp}
-use Rattle.session.proofs.stamp_refused.Statement.{statement}
-use Rattle.session.proofs.stamp_refused.Tie as tie
+use Rattle.session.proofs.lent.stamp_refused.Statement.{statement}
+use Rattle.session.proofs.lent.stamp_refused.Tie as tie
 
 returns : tie.Need-returns
 returns c = simp (lt-ltb last-stamp (c .before .args .t) (omega arith))
