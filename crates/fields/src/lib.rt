@@ -6,7 +6,8 @@ ghost use lib.ListN.{length, drop};
 ghost use lib.Seq.{paste};
 ghost use Rattle.fields.specs.Fields.{digit, bit, field, number, bits, at, packed, Bits};
 
-fn wide(b: u8) -> u64
+// A byte as a number of 64 bits.
+pub fn wide(b: u8) -> u64
     ensures { λ r. ⌜ r ≡ b ⌝ }
 {
     b as u64

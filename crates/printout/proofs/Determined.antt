@@ -1,4 +1,4 @@
--- Each promise determines the whole answer, every byte of it and the number of bytes: two results allowed by it are equal. Assumes nothing.
+-- Each promise determines the whole answer, every byte of it and the number of bytes: two results allowed by it are equal.
 use Prim.Native.Nat.{ℕ}
 use mathlib.Core.Path.{_≡_, sym, _∙_}
 use Rattle.printout.specs.declared.Text.{Text}
@@ -7,7 +7,8 @@ use Rattle.printout.specs.Text.{header-text, line-text, end-text, stop-t
 pub header-determined : (r r′ : Text) → r ≡ text-of header-text → r′ ≡ text-of header-text → r ≡ r′
 header-determined r r′ e e′ = e ∙ sym e′
 
-pub line-determined : (number kind action stamp verdict open-count : ℕ) (r r′ : Text) → r ≡ text-of (line-text number kind action stamp verdict open-count) → r′ ≡ text-of (line-text number kind action stamp verdict open-count) → r ≡ r′
+pub line-determined : (number kind action stamp verdict open-count : ℕ) (r r′ : Text)
+    → r ≡ text-of (line-text number kind action stamp verdict open-count) → r′ ≡ text-of (line-text number kind action stamp verdict open-count) → r ≡ r′
 line-determined number kind action stamp verdict open-count r r′ e e′ = e ∙ sym e′
 
 pub end-determined : (count : ℕ) (r r′ : Text) → r ≡ text-of (end-text count) → r′ ≡ text-of (end-text count) → r ≡ r′

@@ -1,4 +1,4 @@
--- The digits of a number below 2 ^ 64, one by one. Assumes nothing.
+-- The digits of a number below 2 ^ 64, one by one.
 use Prim.Native.Nat.{ℕ, zero, suc, _+_, _/_, _%_, _^_, _≤_, _<_}
 use mathlib.Core.Path.{_≡_, sym, ap, subst, _∙_}
 use mathlib.Core.Bool.{Bool, true, false, not, cond}
@@ -67,7 +67,8 @@ put-small {t} {r} v small is added =
     subst (λ (l : List ℕ). Added t l (length l) r) e added
 
 -- Any other by the digits of its tenth, and its last.
-pub put-more : {t s r : Text} {b : ℕ} (v : ℕ) → 10 ≤ v → v < 2 ^ 64 → b ≡ digit (v % 10) → Added t (decimal (v / 10)) (length (decimal (v / 10))) s → Added s (b ∷ []) 1 r → Added t (decimal v) (length (decimal v)) r
+pub put-more : {t s r : Text} {b : ℕ} (v : ℕ) → 10 ≤ v → v < 2 ^ 64 → b ≡ digit (v % 10)
+    → Added t (decimal (v / 10)) (length (decimal (v / 10))) s → Added s (b ∷ []) 1 r → Added t (decimal v) (length (decimal v)) r
 put-more {t} {r = r} {b} v more fits is front last =
     let e = ap (λ (x : ℕ). decimal (v / 10) ++ x ∷ []) is ∙ sym (decimal-more v more fits) in
     let all : Added t (decimal (v / 10) ++ b ∷ []) (length (decimal (v / 10)) + 1) r = then front last in

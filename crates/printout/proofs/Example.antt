@@ -1,5 +1,4 @@
 -- Document 01's listing of case 15, byte for byte, by the definitions alone; and a gap's line and a `stop` line, which it has not.
--- Assumes nothing.
 use Prim.Native.Nat.{ℕ}
 use mathlib.Core.Path.{_≡_, refl}
 use mathlib.Core.List.{List, [], _∷_, _++_}

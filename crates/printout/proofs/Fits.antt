@@ -1,5 +1,5 @@
 -- Every text fits the room of an answer, whatever the numbers, and an answer's first `len` bytes are its text: what a caller
--- needs to write it out. Assumes nothing.
+-- needs to write it out.
 use Prim.Native.Nat.{ℕ, zero, suc, _-_, _≤_}
 use mathlib.Core.Path.{_≡_}
 use mathlib.Core.List.{List}

@@ -1,4 +1,4 @@
--- A printed number reads back: the value of its digits is the number, so no two numbers print alike. Assumes nothing.
+-- A printed number reads back: the value of its digits is the number, so no two numbers print alike.
 use Prim.Native.Nat.{ℕ, zero, suc, _+_, _-_, _*_, _/_, _%_, _^_, _≤_, _<_}
 use mathlib.Core.Path.{_≡_, refl, sym, ap, _∙_}
 use mathlib.Core.List.{List, [], _∷_, _++_}

@@ -101,12 +101,6 @@ fn put_verdict(t: Text, verdict: u64) -> Text
     }
 }
 
-fn wide(b: u8) -> u64
-    ensures { λ r. ⌜ r ≡ b ⌝ }
-{
-    b as u64
-}
-
 // The first line of every listing.
 pub fn header() -> Text
     ensures { λ r. ⌜ r ≡ text-of header-text ⌝ }
@@ -120,7 +114,7 @@ pub fn line(number: u64, kind: u8, action: u8, stamp: u64, verdict: u64, open_co
 {
     let front = put_field(empty(), number);
     let of_kind = put(put(front, letter_of(kind)), b' ');
-    let of_action = put_field(of_kind, wide(action));
+    let of_action = put_field(of_kind, fields::wide(action));
     let of_stamp = put_field(of_action, stamp);
     let of_verdict = put(put_verdict(of_stamp, verdict), b' ');
     put(put_number(of_verdict, open_count), b'\n')

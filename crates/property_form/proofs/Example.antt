@@ -1,12 +1,12 @@
--- Document 01's own packing: property B of its case 15, LB 10, UB 30, sequence ?0, allowed {!1}. Assumes nothing.
+-- Document 01's own packing: property B of its case 15, LB 10, UB 30, sequence ?0, allowed {!1}.
 use Prim.Native.Nat.{ℕ}
 use mathlib.Core.Path.{_≡_, refl}
 use mathlib.Core.Bool.{false}
 use mathlib.Core.List.{List, _∷_}
 use lib.ListN.{replicate}
-use Rattle.meaning.specs.Words
 use Rattle.property.specs.declared.Property.{Property}
-use Rattle.property.specs.Meant.{first, meant}
+use Rattle.laws.specs.Places.{first}
+use Rattle.property.specs.Meant.{meant}
 use Rattle.fields.specs.Fields.{digit, bit, number, bits, run, packed, form}
 use Rattle.property_form.specs.Form.{action-bits, sequence-bits, allowed-bits, property-bits, property-form, form-size}
 use Rattle.property_form.specs.Read.{mask, property-read, read-refusal, read}

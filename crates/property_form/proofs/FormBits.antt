@@ -1,4 +1,4 @@
--- The bits of a packed property: how many they are, that they are bits, and what the writer's list of bits holds. Assumes nothing.
+-- The bits of a packed property: how many they are, that they are bits, and what the writer's list of bits holds.
 use Prim.Native.Nat.{ℕ, zero, suc, _+_, _-_, _*_, _<_}
 use mathlib.Core.Path.{_≡_, refl, sym, ap, ap₂, _∙_}
 use mathlib.Core.Bool.{Bool, true, false}
@@ -12,10 +12,11 @@ use Rattle.meaning.specs.Words.{Action}
 use Rattle.meaning.specs.Words
 use Rattle.property.specs.declared.Property.{Property}
 use Rattle.property.specs.Meant.{action-of, meant, sequence-of}
-use Rattle.property.specs.Meant
-use Rattle.property.proofs.Sequence.{length-first}
+use Rattle.laws.specs.Bits.{bit}
+use Rattle.laws.proofs.Places.{length-first}
 use Rattle.fields.specs.Fields.{digit, bits, run, at, size, Bits}
-use Rattle.fields.proofs.Laws.{digit-lt, length-bits, length-run, run-same, Bits-append, Bits-bits, Bits-run, paste-paste, length-form}
+use Rattle.fields.proofs.Laws.{digit-lt, length-bits, length-run, run-same}
+use Rattle.fields.proofs.Packed.{Bits-append, Bits-bits, Bits-run, paste-paste, length-form}
 use Rattle.property_form.specs.Form.{flag, action-bits, sequence-bits, allowed-bits, property-bits, property-form, form-bits, form-size}
 use Rattle.property_form.proofs.Laws.{length-sequence, length-sequence-first}
 
@@ -68,6 +69,16 @@ pub length-property-form : (q : Words.Property) → length (property-form q) ≡
 unfolding property-form
 length-property-form q = length-form (property-bits q) ∙ ap size (length-property q)
 
+-- Action i of a property record, whose form has the length of its n actions.
+abbrev pub action-at : Property → ℕ → Action
+action-at p i = action-of (getD (p .output) i false) (getD (p .number) i 0)
+
+pub length-of-bits : (p : Property) → length (property-bits (meant p)) ≡ form-bits (p .n)
+length-of-bits p = length-property (meant p) ∙ ap form-bits (length-first (action-at p) (p .n))
+
+pub length-of-form : (p : Property) → length (property-form (meant p)) ≡ form-size (p .n)
+length-of-form p = length-property-form (meant p) ∙ ap form-size (length-first (action-at p) (p .n))
+
 -- ---- they are bits
 
 pub Bits-action : (a : Action) → Bits (at (action-bits a))
@@ -111,10 +122,10 @@ Bits-property q =
 -- ---- what the writer puts
 
 -- a mask's bits, the first for output 0
-pub allowed-of : (m : ℕ) → allowed-bits (Meant.bit m) ≡ run (digit m) 0 64
+pub allowed-of : (m : ℕ) → allowed-bits (bit m) ≡ run (digit m) 0 64
 unfolding allowed-bits digit
 allowed-of m =
-    run-same (λ k. flag (Meant.bit m k)) (digit m) 0 0 64 (λ k h. flag-eqb (digit m (0 + k)) (digit-lt m (0 + k)))
+    run-same (λ k. flag (bit m k)) (digit m) 0 0 64 (λ k h. flag-eqb (digit m (0 + k)) (digit-lt m (0 + k)))
 
 abbrev zeros : ℕ → List ℕ
 zeros n = replicate n 0
@@ -163,7 +174,7 @@ put-all p l₁ l₂ l₃ l₄ l₅ e₁ e₂ e₃ e₄ e₅ =
     e = run (digit (p .allowed)) 0 64
 
     length-d : length d ≡ 7 * p .n
-    length-d = length-sequence-first (λ i. action-of (getD (p .output) i false) (getD (p .number) i 0)) (p .n)
+    length-d = length-sequence-first (action-at p) (p .n)
 
     length-ab : length (a ++ b) ≡ 32
     length-ab = length-append a b ∙ ap₂ (λ (x y : ℕ). x + y) (length-bits 6 (p .n)) (length-bits 26 (p .lb))
@@ -206,8 +217,8 @@ put-all p l₁ l₂ l₃ l₄ l₅ e₁ e₂ e₃ e₄ e₅ =
     bits-in-all : 58 + 7 * p .n + 64 ≡ form-bits (p .n)
     bits-in-all = omega arith
 
-    written : a ++ b ++ c ++ d ++ e ≡ bits 6 (length (sequence-of p)) ++ b ++ c ++ d ++ allowed-bits (Meant.bit (p .allowed))
+    written : a ++ b ++ c ++ d ++ e ≡ bits 6 (length (sequence-of p)) ++ b ++ c ++ d ++ allowed-bits (bit (p .allowed))
     written =
         ap₂ (λ (x : ℕ) (y : List ℕ). bits 6 x ++ b ++ c ++ d ++ y)
-        (sym (length-first (λ i. action-of (getD (p .output) i false) (getD (p .number) i 0)) (p .n)))
+        (sym (length-first (action-at p) (p .n)))
         (sym (allowed-of (p .allowed)))

@@ -1,4 +1,4 @@
--- Laws of the parts of the packed property: places, masks, and the bits of sequences. Assumes nothing.
+-- Laws of the parts of the packed property: places, masks, and the bits of sequences.
 use Prim.Native.Nat.{ℕ, zero, suc, _+_, _-_, _*_, _/_, _%_, _^_, _≤_, _<_}
 use mathlib.Core.Path.{_≡_, refl, sym, ap, ap₂, _∙_}
 use mathlib.Core.Logic.{⊎-elim}
@@ -12,10 +12,12 @@ use lib.Pow.{pow-mono, pow-lt}
 use lib.ListN.{length, getD, set, replicate, length-append, length-replicate, List·getD-append}
 use lib.Seq.{set-at, append-snoc, paste, ext-getD, getD-append-add}
 use Rattle.meaning.specs.Words.{Action}
-use Rattle.property.specs.Meant.{first, action-of}
-use Rattle.property.proofs.Sequence.{length-first, first-snoc, first-add, getD-first}
+use Rattle.laws.specs.Places.{first}
+use Rattle.property.specs.Meant.{action-of}
+use Rattle.laws.proofs.Places.{length-first, first-snoc, first-add, getD-first}
 use Rattle.fields.specs.Fields.{digit, bits, Bits}
-use Rattle.fields.proofs.Laws.{le-or-lt, digit-zero, digit-suc, length-bits, paste-paste}
+use Rattle.fields.proofs.Laws.{le-or-lt, digit-zero, digit-suc, length-bits}
+use Rattle.fields.proofs.Packed.{paste-paste}
 use Rattle.property_form.specs.Form.{flag, action-bits, sequence-bits}
 use Rattle.property_form.specs.Read.{places, mask}
 

@@ -1,4 +1,4 @@
--- What is read from bytes, written as bits again, is the bits of the bytes. Assumes nothing.
+-- What is read from bytes, written as bits again, is the bits of the bytes.
 use Prim.Native.Nat.{ℕ, zero, suc, _+_, _*_}
 use mathlib.Core.Path.{_≡_, refl, sym, ap, ap₂, _∙_}
 use mathlib.Core.Bool.{false}
@@ -6,17 +6,17 @@ use mathlib.Core.List.{List, _++_}
 use native.Mathlib.Nat.{zero-add}
 use native.Mathlib.Numerals.{add-one}
 use native.Mathlib.Omega.{arith}
-use lib.ListN.{getD}
 use Rattle.meaning.specs.Words.{Action}
-use Rattle.property.specs.Meant.{first, action-of, meant, sequence-of}
-use Rattle.property.specs.Meant
-use Rattle.property.proofs.Sequence.{length-first, first-same}
-use Rattle.fields.specs.Fields.{digit, bit, number, field, bits, run}
+use Rattle.laws.specs.Places.{first}
+use Rattle.property.specs.Meant.{action-of, meant, sequence-of}
+use Rattle.laws.specs.Bits.{bit as mask-bit}
+use Rattle.laws.proofs.Places.{length-first, first-same}
+use Rattle.fields.specs.Fields.{digit, bit, field, bits, run}
 use Rattle.fields.proofs.Laws.{bit-lt, number-lt, bits-number, run-add, run-same}
 use Rattle.property_form.specs.Form.{action-bits, sequence-bits, allowed-bits, property-bits, form-bits}
 use Rattle.property_form.specs.Read.{length-read, output-read, number-read, mask, property-read}
 use Rattle.property_form.proofs.Laws.{sequence-snoc, action-of-bits, getD-places, digit-mask}
-use Rattle.property_form.proofs.FormBits.{flag-eqb, allowed-of}
+use Rattle.property_form.proofs.FormBits.{flag-eqb, action-at, allowed-of}
 
 -- Action i as it is read.
 abbrev pub action-read : List ℕ → ℕ → Action
@@ -51,7 +51,7 @@ sequence-run s (suc n) =
     more : 7 * n + 7 ≡ 7 * suc n
     more = omega arith
 
-allowed-run : (s : List ℕ) (i : ℕ) → allowed-bits (Meant.bit (mask (bit s) i 64)) ≡ run (bit s) i 64
+allowed-run : (s : List ℕ) (i : ℕ) → allowed-bits (mask-bit (mask (bit s) i 64)) ≡ run (bit s) i 64
 allowed-run s i =
     allowed-of (mask (bit s) i 64)
     ∙ run-same (digit (mask (bit s) i 64)) (bit s) 0 i 64
@@ -61,7 +61,7 @@ allowed-run s i =
 pub sequence-read : (s : List ℕ) → sequence-of (property-read s) ≡ first (action-read s) (length-read s)
 unfolding property-read
 sequence-read s =
-    first-same (λ i. action-of (getD (property-read s .output) i false) (getD (property-read s .number) i 0)) (action-read s)
+    first-same (action-at (property-read s)) (action-read s)
     (length-read s)
     (λ i h.
     ap₂ action-of (getD-places (output-read s) (length-read s) i false h) (getD-places (number-read s) (length-read s) i 0 h))
@@ -71,7 +71,7 @@ pub bits-read : (s : List ℕ) → property-bits (meant (property-read s)) ≡ r
 unfolding property-bits property-read
 bits-read s =
     ap₂ (λ (x : ℕ) (y : List ℕ). bits 6 x ++ bits 26 (field s 6 26) ++ bits 26 (field s 32 26) ++ y ++ A)
-    (length-first (λ i. action-of (getD (property-read s .output) i false) (getD (property-read s .number) i 0)) n)
+    (length-first (action-at (property-read s)) n)
     (ap sequence-bits (sequence-read s) ∙ sequence-run s n)
     ∙ ap₂ (λ (x y : List ℕ). x ++ y ++ bits 26 (field s 32 26) ++ run (bit s) 58 (7 * n) ++ A)
     (bits-number (bit s) (bit-lt s) 0 6) (bits-number (bit s) (bit-lt s) 6 26)
@@ -87,7 +87,7 @@ bits-read s =
     n = length-read s
 
     A : List ℕ
-    A = allowed-bits (Meant.bit (mask (bit s) (58 + 7 * n) 64))
+    A = allowed-bits (mask-bit (mask (bit s) (58 + 7 * n) 64))
 
     all : 58 + 7 * n + 64 ≡ form-bits n
     all = omega arith

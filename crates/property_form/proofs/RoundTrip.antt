@@ -1,6 +1,5 @@
 -- The two round trips of the packed property. What was written reads back as it was given, with the rest right behind it, whatever
 -- bytes follow; and what the reader takes is exactly what the writer writes of it, so that each property has one packing.
--- Assumes nothing.
 use Prim.Native.Nat.{ℕ, suc, _+_, _-_, _*_, _^_, _≤_, _<_}
 use mathlib.Core.Path.{_≡_, refl, sym, ap, ap₂, _∙_}
 use mathlib.Core.Bool.{Bool, false, not}
@@ -12,21 +11,23 @@ use lib.Dec.{eqb}
 use lib.ListN.{length, getD, replicate, take, drop, length-append, List·getD-eq-default}
 use lib.Seq.{getD-append-add, drop-at, length-take-le}
 use Rattle.meaning.specs.Words.{Action}
-use Rattle.meaning.specs.Words
 use Rattle.meaning.specs.Numbers.{given, first-of, property-refusal}
 use Rattle.property.specs.declared.Property.{Property}
-use Rattle.property.specs.Meant.{first, action-of, meant}
-use Rattle.property.specs.Meant
-use Rattle.property.proofs.Sequence.{length-first, first-same}
+use Rattle.laws.specs.Places.{first}
+use Rattle.property.specs.Meant.{action-of, meant}
+use Rattle.laws.specs.Bits.{bit as mask-bit}
+use Rattle.laws.proofs.Places.{length-first, first-same}
 use Rattle.property.proofs.Refusal.{taken-bounds, taken-number}
 use Rattle.fields.specs.Fields.{digit, bit, number, field, bits, run, at, size, form}
-use Rattle.fields.proofs.Laws.{number-zeros, zero-number, getD-run, length-bits, bit-form, field-of-form, form-run}
+use Rattle.fields.proofs.Laws.{number-zeros, zero-number, getD-run, length-bits}
+use Rattle.fields.proofs.Packed.{bit-form, field-of-form, form-run}
 use Rattle.property_form.specs.Form.{flag, sequence-bits, property-bits, property-form, form-bits, form-size}
 use Rattle.property_form.specs.Read.{length-read, places, output-read, number-read, mask, property-read, too-short, pad-read, pad-broken, read-refusal, read, taken}
 use Rattle.property_form.specs.Write.{write-refusal, written, left}
 use Rattle.property_form.proofs.Laws.{action-of-bits, sequence-split, length-sequence-first, getD-places, places-getD, mask-digits}
-use Rattle.property_form.proofs.FormBits.{flag-lt, eqb-flag, length-head, length-property, length-property-form, Bits-property, allowed-of}
-use Rattle.property_form.proofs.Answers.{whole, pad-zero, not-broken, not-refused, refusal-split, read-taken, taken-all, taken-le, refusal-read, property-of-read, write-fits, write-taken, written-taken, left-taken, refusal-written, size-written}
+use Rattle.property_form.proofs.FormBits.{flag-lt, eqb-flag, length-head, action-at, length-of-bits, length-of-form, Bits-property, allowed-of}
+use Rattle.property_form.proofs.Answers.{whole, pad-zero, not-broken, not-refused, refusal-split, read-taken, taken-all, taken-le, refusal-read, property-of-read}
+use Rattle.property_form.proofs.Answers.{write-fits, write-taken, written-taken, left-taken, refusal-written, size-written}
 use Rattle.property_form.proofs.ReadBits.{bits-read}
 
 -- ---- back: what is read is what is written
@@ -69,9 +70,8 @@ cleared p =
 -- It means the same.
 pub meant-cleared : (p : Property) → meant (cleared p) ≡ meant p
 meant-cleared p =
-    ap (λ (l : List Action). record { sequence = l; allowed = Meant.bit (p .allowed); LB = p .lb; UB = p .ub })
-    (first-same (λ i. action-of (getD (places (λ i. getD (p .output) i false) (p .n) false) i false) (getD (places (λ i. getD (p .number) i 0) (p .n) 0) i 0))
-    (λ i. action-of (getD (p .output) i false) (getD (p .number) i 0)) (p .n)
+    ap (λ (l : List Action). record { sequence = l; allowed = mask-bit (p .allowed); LB = p .lb; UB = p .ub })
+    (first-same (action-at (cleared p)) (action-at p) (p .n)
     (λ i h.
     ap₂ action-of (getD-places (λ i. getD (p .output) i false) (p .n) i false h) (getD-places (λ i. getD (p .number) i 0) (p .n) i 0 h)))
 
@@ -83,10 +83,7 @@ cleared-same p lo ln h zo zn =
     let number : places (λ i. getD (p .number) i 0) (p .n) 0 ≡ p .number = places-getD (p .number) (p .n) 0 ln h zn in
     λ i. record { n = p .n; output = output i; number = number i; allowed = p .allowed; lb = p .lb; ub = p .ub }
 
--- Action i of a property, and the parts of its bits before and behind the actions.
-abbrev action-at : Property → ℕ → Action
-action-at p i = action-of (getD (p .output) i false) (getD (p .number) i 0)
-
+-- The parts of its bits: before the actions, the actions, and behind them.
 abbrev head : Property → List ℕ
 head p = bits 6 (p .n) ++ bits 26 (p .lb) ++ bits 26 (p .ub)
 
@@ -101,9 +98,6 @@ unfolding property-bits
 parts p =
     ap₂ (λ (x : ℕ) (y : List ℕ). bits 6 x ++ bits 26 (p .lb) ++ bits 26 (p .ub) ++ actions p ++ y)
     (length-first (action-at p) (p .n)) (allowed-of (p .allowed))
-
-length-parts : (p : Property) → length (property-bits (meant p)) ≡ form-bits (p .n)
-length-parts p = length-property (meant p) ∙ ap form-bits (length-first (action-at p) (p .n))
 
 length-until : (p : Property) (i : ℕ) → length (head p ++ sequence-bits (first (action-at p) i)) ≡ 58 + 7 * i
 length-until p i =
@@ -172,7 +166,7 @@ module _ (p : Property) (e : property-refusal (meant p) ≡ 0) (m : p .allowed <
   allowed-back =
       mask-digits (bit (form (property-bits (meant p)) ++ rest)) (58 + 7 * p .n) 64 (p .allowed) m
       (λ j h.
-      bit-form (property-bits (meant p)) rest (Bits-property (meant p)) (58 + 7 * p .n + j) (omega (arith, length-parts p, h))
+      bit-form (property-bits (meant p)) rest (Bits-property (meant p)) (58 + 7 * p .n + j) (omega (arith, length-of-bits p, h))
       ∙ ap₂ (λ (x : List ℕ) (y : ℕ). at x (y + j)) (parts p) (sym (length-until p (p .n)))
       ∙ getD-append-add (head p ++ actions p) (tail p) j 0
       ∙ getD-run (digit (p .allowed)) 0 64 j h
@@ -194,13 +188,10 @@ module _ (p : Property) (e : property-refusal (meant p) ≡ 0) (m : p .allowed <
       ap (λ (k : ℕ). mask (bit s) (58 + 7 * k) 64) length-back ∙ allowed-back in
       λ i. record { n = length-back i; output = output i; number = number i; allowed = allowed i; lb = lb-back i; ub = ub-back i }
 
-  length-bytes : length (property-form (meant p)) ≡ form-size (p .n)
-  length-bytes = length-property-form (meant p) ∙ ap form-size (length-first (action-at p) (p .n))
-
   long-enough : too-short (property-form (meant p) ++ rest) ≡ false
   long-enough =
       le-ltb (length (property-form (meant p) ++ rest)) (form-size (length-read (property-form (meant p) ++ rest)))
-      (omega (arith, length-append (property-form (meant p)) rest, length-bytes, length-back))
+      (omega (arith, length-append (property-form (meant p)) rest, length-of-form p, length-back))
 
   pad-back : pad-broken (property-form (meant p) ++ rest) ≡ false
   unfolding property-form
@@ -211,8 +202,8 @@ module _ (p : Property) (e : property-refusal (meant p) ≡ 0) (m : p .allowed <
       (number-zeros (bit s) (form-bits (length-read s)) (8 * form-size (length-read s) - form-bits (length-read s))
       (λ k h.
       bit-form (property-bits (meant p)) rest (Bits-property (meant p)) (form-bits (length-read s) + k)
-      (omega (arith, length-parts p, length-back, h))
-      ∙ List·getD-eq-default (property-bits (meant p)) 0 (omega (arith, length-parts p, length-back, h)))))
+      (omega (arith, length-of-bits p, length-back, h))
+      ∙ List·getD-eq-default (property-bits (meant p)) 0 (omega (arith, length-of-bits p, length-back, h)))))
 
   refusal-back : read-refusal (property-form (meant p) ++ rest) ≡ 0
   refusal-back =
@@ -230,7 +221,7 @@ module _ (p : Property) (e : property-refusal (meant p) ≡ 0) (m : p .allowed <
   pub rest-back : drop (taken (property-form (meant p) ++ rest)) (property-form (meant p) ++ rest) ≡ rest
   rest-back =
       drop-at (property-form (meant p)) rest (taken (property-form (meant p) ++ rest))
-      (length-bytes ∙ sym (taken-all (property-form (meant p) ++ rest) refusal-back ∙ ap form-size length-back))
+      (length-of-form p ∙ sym (taken-all (property-form (meant p) ++ rest) refusal-back ∙ ap form-size length-back))
 
 -- Properties with the same form are the same, but for the places that are not used.
 pub one-property : (p p′ : Property) → property-refusal (meant p) ≡ 0 → property-refusal (meant p′) ≡ 0 → p .allowed < 2 ^ 64

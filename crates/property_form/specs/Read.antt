@@ -1,14 +1,15 @@
 -- What the reader of a packed property answers.
 use Prim.Native.Nat.{ℕ, zero, suc, _+_, _-_, _*_, _^_}
-use mathlib.Core.Path.{_≡_}
 use mathlib.Core.Bool.{Bool, false, not}
 use mathlib.Core.List.{List, _++_}
 use lib.ListN.{length, replicate}
 use lib.Dec.{ltb, eqb}
 use Rattle.meaning.specs.Limits.{most-actions}
 use Rattle.meaning.specs.Numbers.{given, first-of, property-refusal}
+use Rattle.meaning.specs.Calls.{unless-refused}
 use Rattle.property.specs.declared.Property.{Property}
-use Rattle.property.specs.Meant.{first, meant}
+use Rattle.laws.specs.Places.{first}
+use Rattle.property.specs.Meant.{meant}
 use Rattle.fields.specs.Fields.{bit, field}
 use Rattle.property_form.specs.declared.PropertyRead.{PropertyRead}
 use Rattle.property_form.specs.Form.{form-bits, form-size}
@@ -74,17 +75,12 @@ zeros =
     }
 
 abbrev pub answer : ℕ → Property → PropertyRead
-answer zero p = record { refusal = 0; property = p }
-answer (suc r) p = record { refusal = suc r; property = zeros }
+answer refusal p = record { refusal = refusal; property = unless-refused refusal p zeros }
 
 -- "A reader takes one form from the front .."
 unfoldable pub read : List ℕ → PropertyRead
 read s = answer (read-refusal s) (property-read s)
 
 -- The bytes taken; none by a refusal: "a reader's rest is then the whole slice".
-abbrev pub taken-size : ℕ → ℕ → ℕ
-taken-size zero n = form-size n
-taken-size (suc r) n = 0
-
 unfoldable pub taken : List ℕ → ℕ
-taken s = taken-size (read-refusal s) (length-read s)
+taken s = unless-refused (read-refusal s) (form-size (length-read s)) 0

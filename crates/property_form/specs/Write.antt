@@ -1,10 +1,11 @@
 -- What the writer of a packed property answers, and the bytes that it leaves.
-use Prim.Native.Nat.{ℕ, zero, suc}
+use Prim.Native.Nat.{ℕ}
 use mathlib.Core.List.{List, _++_}
 use lib.ListN.{length, drop}
 use lib.Dec.{ltb}
 use Rattle.meaning.specs.Words
 use Rattle.meaning.specs.Numbers.{given, first-of, property-refusal}
+use Rattle.meaning.specs.Calls.{unless-refused}
 use Rattle.property_form.specs.declared.Written.{Written}
 use Rattle.property_form.specs.Form.{property-form}
 
@@ -12,19 +13,12 @@ use Rattle.property_form.specs.Form.{property-form}
 unfoldable pub write-refusal : Words.Property → List ℕ → ℕ
 write-refusal q buf = first-of (property-refusal q) (given 9 (ltb (length buf) (length (property-form q))))
 
-abbrev pub write-answer : ℕ → ℕ → Written
-write-answer zero size = record { refusal = 0; size = size }
-write-answer (suc r) size = record { refusal = suc r; size = 0 }
-
--- The refusal, or the number of bytes written.
+-- The refusal, and the number of bytes written, 0 by a refusal.
 unfoldable pub written : Words.Property → List ℕ → Written
-written q buf = write-answer (write-refusal q buf) (length (property-form q))
+written q buf =
+    let refusal : ℕ = write-refusal q buf in
+    record { refusal = refusal; size = unless-refused refusal (length (property-form q)) 0 }
 
--- "Bytes behind what a writer wrote stay."
-abbrev pub over : ℕ → List ℕ → List ℕ → List ℕ
-over zero form buf = form ++ drop (length form) buf
-over (suc r) form buf = buf
-
--- The buffer afterwards; after a refusal "nothing changed".
+-- The buffer afterwards: "Bytes behind what a writer wrote stay."; after a refusal "nothing changed".
 unfoldable pub left : Words.Property → List ℕ → List ℕ
-left q buf = over (write-refusal q buf) (property-form q) buf
+left q buf = unless-refused (write-refusal q buf) (property-form q ++ drop (length (property-form q)) buf) buf

@@ -32,7 +32,7 @@ pub fn read_property(s: &[u8]) -> PropertyRead
         };
     }
     let n = read::length_of(s);
-    if 32 < n {
+    if limits::MOST_ACTIONS < n {
         return PropertyRead {
             refusal: 1,
             property: read::none(),

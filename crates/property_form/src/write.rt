@@ -5,15 +5,10 @@ ghost use mathlib.Core.List.{_++_};
 ghost use Prim.Native.Nat.{_+_, _-_, _*_, _≤_, _<_};
 ghost use lib.ListN.{length, getD, replicate};
 ghost use lib.Seq.{paste};
-ghost use Rattle.property.specs.Meant.{meant, first, action-of};
+ghost use Rattle.laws.specs.Places.{first};
+ghost use Rattle.property.specs.Meant.{meant, action-of};
 ghost use Rattle.fields.specs.Fields.{digit, run};
 ghost use Rattle.property_form.specs.Form.{flag, sequence-bits, property-bits, form-bits};
-
-fn wide(b: u8) -> u64
-    ensures { λ r. ⌜ r ≡ b ⌝ }
-{
-    b as u64
-}
 
 fn one_if(b: bool) -> u64
     ensures { λ r. ⌜ r ≡ flag b ⌝ }
@@ -29,7 +24,7 @@ fn put_actions(list: &mut [u8], output: [bool; 32], number: [u8; 32], n: usize)
     let mut i = 0;
     while i < n {
         fields::put_field(list, 58 + 7 * i, 1, one_if(output[i]));
-        fields::put_field(list, 59 + 7 * i, 6, wide(number[i]));
+        fields::put_field(list, 59 + 7 * i, 6, fields::wide(number[i]));
         i += 1;
     }
 }

@@ -1,4 +1,4 @@
--- Document 01: "a lemma shows that two results allowed by it are equal", for each public call. Assumes nothing.
+-- Document 01: "a lemma shows that two results allowed by it are equal", for each public call.
 use Prim.Native.Nat.{ℕ}
 use mathlib.Core.Path.{_≡_, sym, _∙_}
 use mathlib.Core.List.{List}

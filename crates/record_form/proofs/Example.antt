@@ -1,4 +1,4 @@
--- The trace of document 01's case 15, by the definitions alone. Assumes nothing.
+-- The trace of document 01's case 15, by the definitions alone.
 use Prim.Native.Nat.{ℕ}
 use mathlib.Core.Path.{_≡_, refl, subst}
 use mathlib.Core.List.{List, [], _∷_}

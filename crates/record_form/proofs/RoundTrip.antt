@@ -1,5 +1,5 @@
 -- The record's two round trips: what was written reads back as it was given, and whatever the reader takes is exactly what
--- the writer writes for it. Assumes nothing.
+-- the writer writes for it.
 use Prim.Native.Nat.{ℕ, _+_, _-_, _^_, _<_, _≤_}
 use mathlib.Core.Bool.{Bool, true, false}
 use mathlib.Core.Path.{_≡_, refl, sym, _∙_, ap, ap₂, subst}
@@ -11,12 +11,13 @@ use denote.Ref.{RefT, ptr, now}
 use lib.Dec.{eqb}
 use borrow.Author.Tests.{le-ltb, eq-eqb, ne-eqb, eqb-true, eqb-false, not-false}
 use Rattle.fields.specs.Fields.{field, bit, bits, form, size, at, Bits}
-use Rattle.fields.proofs.Laws.{length-bits, field-form, form-run, run-add, bits-number, bit-lt}
+use Rattle.fields.proofs.Laws.{length-bits, run-add, bits-number, bit-lt}
+use Rattle.fields.proofs.Packed.{field-form, form-run}
 use Rattle.record_form.specs.declared.RecordRead.{RecordRead}
 use Rattle.fields.specs.Rest.{Rest}
-use Rattle.record_form.specs.Record.{Answer, taken, fields-refusal, read-refusal, record-answer, numbers, IsRead, bytes-read, write-refusal, Bytes, record-form, written, IsWritten}
+use Rattle.record_form.specs.Record.{RecordAnswer, taken, fields-refusal, read-refusal, record-answer, numbers, IsRead, bytes-read, write-refusal, Bytes, record-form, written, IsWritten}
 use Rattle.record_form.proofs.Rules.{within}
-use Rattle.record_form.proofs.Reading.{Taken, unbroken, is-taken, taken-answer, refusal-of, field-lt, size-taken}
+use Rattle.record_form.proofs.Reading.{Readable, unbroken, is-taken, taken-answer, refusal-of, field-lt, size-taken}
 use Rattle.record_form.proofs.Writing.{record-bits, length-record-form, Bits-record, Writable, is-writable, written-form}
 
 -- ---- out: the fields of a form, whatever follows it
@@ -53,7 +54,7 @@ other-stamp stamp before h = go (eqb stamp before) refl
     go false e = ne-eqb (stamp - before) 0 (λ q. eqb-false stamp before e (omega arith))
 
 -- ---- no refusal, from what it rules out
-read-none : {s : List ℕ} {before : ℕ} → Taken s before → read-refusal s before ≡ 0
+read-none : {s : List ℕ} {before : ℕ} → Readable s before → read-refusal s before ≡ 0
 unfolding read-refusal fields-refusal
 read-none t = simp (le-ltb _ _ (t .size), t .sound, t .in-range)
 
@@ -82,7 +83,7 @@ module _ (kind action stamp before room : ℕ) (w : Writable kind action stamp b
   less-back : field form-and-rest 8 40 ≡ stamp - before
   less-back = form-less kind action (stamp - before) rest (bounds .2)
 
-  form-taken : Taken form-and-rest before
+  form-taken : Readable form-and-rest before
   form-taken =
       record {
         size = omega (arith, length-append (record-form kind action (stamp - before)) rest, length-record-form kind action (stamp - before));
@@ -114,19 +115,19 @@ fields-form s b h =
 
 module _ (s : List ℕ) (before kind action stamp : ℕ) (e : record-answer s before ≡ taken kind action stamp) where
   unrefused : read-refusal s before ≡ 0
-  unrefused = sym (refusal-of s before) ∙ ap (λ (a : Answer). a .refusal) e
+  unrefused = sym (refusal-of s before) ∙ ap (λ (a : RecordAnswer). a .refusal) e
 
   values : taken (field s 0 2) (field s 2 6) (before + field s 8 40) ≡ taken kind action stamp
   values = sym (taken-answer s before unrefused) ∙ e
 
   is-kind : field s 0 2 ≡ kind
-  is-kind = ap (λ (a : Answer). a .kind) values
+  is-kind = ap (λ (a : RecordAnswer). a .kind) values
 
   is-action : field s 2 6 ≡ action
-  is-action = ap (λ (a : Answer). a .action) values
+  is-action = ap (λ (a : RecordAnswer). a .action) values
 
   is-less : field s 8 40 ≡ stamp - before
-  is-less = omega (arith, ap (λ (a : Answer). a .stamp) values)
+  is-less = omega (arith, ap (λ (a : RecordAnswer). a .stamp) values)
 
   pub size-read : 6 ≤ length s
   size-read = is-taken s before unrefused .size
@@ -135,7 +136,7 @@ module _ (s : List ℕ) (before kind action stamp : ℕ) (e : record-answer s be
   pub read-is-writable : Writable kind action stamp before (length s)
   read-is-writable =
       let t = is-taken s before unrefused in
-      let sum : before + field s 8 40 ≡ stamp = ap (λ (a : Answer). a .stamp) values in
+      let sum : before + field s 8 40 ≡ stamp = ap (λ (a : RecordAnswer). a .stamp) values in
       let below : before ≤ stamp = omega arith in
       record {
         sound = rw (← other-stamp stamp before below, ← is-kind, ← is-action, ← is-less) (t .sound);
@@ -167,7 +168,7 @@ written-reads-back kind action stamp before buffer e =
     let form = record-form kind action (stamp - before) in
     rw (written-form kind action stamp before buffer e) (
       form-is-read kind action stamp before (length buffer) w (drop 6 buffer),
-      size-taken (form ++ drop 6 buffer) before (eq-eqb _ 0 (form-unrefused kind action stamp before (length buffer) w (drop 6 buffer))),
+      size-taken (form ++ drop 6 buffer) before (form-unrefused kind action stamp before (length buffer) w (drop 6 buffer)),
       drop-at form (drop 6 buffer) 6 (length-record-form kind action (stamp - before)),
     )
 

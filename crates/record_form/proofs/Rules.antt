@@ -1,14 +1,15 @@
--- The rules of `specs/Record.antt`, case by case. Assumes nothing.
+-- The rules of `specs/Record.antt`, case by case.
 use Prim.Native.Nat.{ℕ, zero, suc, _+_, _-_, _<_, _≤_}
 use mathlib.Core.Bool.{Bool, true, false, not, _||_, or-false, or-true}
 use mathlib.Core.Path.{_≡_, refl, sym, _∙_, ap}
 use native.Mathlib.Omega.{arith}
 use lib.Dec.{ltb, eqb}
 use borrow.Author.Tests.{lt-ltb, le-ltb, eq-eqb, ne-eqb, ltb-true, ltb-false}
+use Rattle.laws.proofs.Tests.{or-split}
 use Rattle.meaning.specs.Limits.{last-stamp}
 use Rattle.record_form.specs.declared.RecordRead.{RecordRead}
 use Rattle.record_form.specs.declared.RecordRead.the-variants.{Input, Output, Gap, End, Refused}
-use Rattle.record_form.specs.Record.{case-of, case-by, taken, unless-refused, broken, stamp-above, fields-refusal}
+use Rattle.record_form.specs.Record.{case-of, case-by, taken, answered, broken, stamp-above, fields-refusal}
 
 -- ---- refusal 4
 pub stamp-past : (stamp before : ℕ) → last-stamp < stamp → stamp-above stamp before ≡ true
@@ -22,10 +23,6 @@ before-past stamp before h = simp (lt-ltb _ _ h, or-true)
 pub none-past : (stamp before : ℕ) → stamp ≤ last-stamp → before ≤ last-stamp → stamp-above stamp before ≡ false
 unfolding stamp-above
 none-past stamp before h k = simp (le-ltb _ _ h, le-ltb _ _ k)
-
-pub or-split : (a b : Bool) → (a || b) ≡ false → (a ≡ false) × (b ≡ false)
-or-split true b e = let z : _≡_ {A = Bool} true false = e in (z, cc)
-or-split false b e = (refl, e)
 
 pub within : (stamp before : ℕ) → stamp-above stamp before ≡ false → (stamp ≤ last-stamp) × (before ≤ last-stamp)
 unfolding stamp-above
@@ -87,19 +84,19 @@ case-end kind action stamp h = rw h
 -- ---- the answer to fields
 abbrev pub fields-answer : ℕ → ℕ → ℕ → ℕ → RecordRead
 fields-answer kind action less before =
-    case-of (unless-refused (fields-refusal kind action less before) (taken kind action (before + less)))
+    case-of (answered (fields-refusal kind action less before) (taken kind action (before + less)))
 
 module _ (kind action less before : ℕ) where
   pub answer-broken : broken kind action (not (eqb less 0)) ≡ true → fields-answer kind action less before ≡ Refused 8
-  unfolding fields-refusal unless-refused case-by
+  unfolding fields-refusal answered case-by
   answer-broken e = simp e
 
   pub answer-above : broken kind action (not (eqb less 0)) ≡ false → stamp-above (before + less) before ≡ true
       → fields-answer kind action less before ≡ Refused 4
-  unfolding fields-refusal unless-refused case-by
+  unfolding fields-refusal answered case-by
   answer-above e f = simp (e, f)
 
   pub answer-taken : broken kind action (not (eqb less 0)) ≡ false → stamp-above (before + less) before ≡ false
       → fields-answer kind action less before ≡ case-by 0 kind action (before + less)
-  unfolding fields-refusal unless-refused
+  unfolding fields-refusal answered
   answer-taken e f = simp (e, f)

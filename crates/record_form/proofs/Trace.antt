@@ -1,6 +1,6 @@
 -- Traces: what was written reads back as it was given, and whatever is taken as a trace is exactly what is written for it,
--- so that only one packing of each trace is taken. Assumes nothing.
-use Prim.Native.Nat.{ℕ, _+_, _-_, _<_, _≤_}
+-- so that only one packing of each trace is taken.
+use Prim.Native.Nat.{ℕ, _+_, _-_, _<_}
 use mathlib.Core.Path.{_≡_, refl, sym, _∙_, ap, ap₂, subst}
 use mathlib.Core.List.{List, [], _∷_, _++_, append-nil}
 use native.Mathlib.Omega.{arith}
@@ -9,7 +9,7 @@ use lib.ListN.{drop, take-append-drop}
 use lib.Dec.{lit≤}
 use lib.Seq.{drop-at, getD-drop}
 use Rattle.record_form.specs.Record
-use Rattle.record_form.specs.Record.{Answer, taken, record-answer, Bytes, record-form}
+use Rattle.record_form.specs.Record.{RecordAnswer, taken, record-answer, Bytes, record-form}
 use Rattle.record_form.specs.Trace.{Entry, kind-of, action-of, stamp-of, trace-form, CanBeWritten, TakenAs}
 use Rattle.record_form.proofs.Writing.{length-record-form, is-writable}
 use Rattle.record_form.proofs.RoundTrip.{form-is-read, read-is-writable, read-is-form, write-none, in-room}
@@ -60,20 +60,20 @@ trace-one-packing s t before trace bs bt hs ht =
 
 -- And bytes are taken as one trace at most.
 same-entry : (e f : Entry) → taken (kind-of e) (action-of e) (stamp-of e) ≡ taken (kind-of f) (action-of f) (stamp-of f) → e ≡ f
-same-entry (Entry.input a t) (Entry.input b u) h = ap₂ Entry.input (ap (λ (x : Answer). x .action) h) (ap (λ (x : Answer). x .stamp) h)
-same-entry (Entry.input a t) (Entry.output b u) h = let z : ⊥ = omega (arith, ap (λ (x : Answer). x .kind) h) in absurd z
-same-entry (Entry.input a t) (Entry.gap u) h = let z : ⊥ = omega (arith, ap (λ (x : Answer). x .kind) h) in absurd z
-same-entry (Entry.output a t) (Entry.input b u) h = let z : ⊥ = omega (arith, ap (λ (x : Answer). x .kind) h) in absurd z
-same-entry (Entry.output a t) (Entry.output b u) h = ap₂ Entry.output (ap (λ (x : Answer). x .action) h) (ap (λ (x : Answer). x .stamp) h)
-same-entry (Entry.output a t) (Entry.gap u) h = let z : ⊥ = omega (arith, ap (λ (x : Answer). x .kind) h) in absurd z
-same-entry (Entry.gap t) (Entry.input b u) h = let z : ⊥ = omega (arith, ap (λ (x : Answer). x .kind) h) in absurd z
-same-entry (Entry.gap t) (Entry.output b u) h = let z : ⊥ = omega (arith, ap (λ (x : Answer). x .kind) h) in absurd z
-same-entry (Entry.gap t) (Entry.gap u) h = ap Entry.gap (ap (λ (x : Answer). x .stamp) h)
+same-entry (Entry.input a t) (Entry.input b u) h = ap₂ Entry.input (ap (λ (x : RecordAnswer). x .action) h) (ap (λ (x : RecordAnswer). x .stamp) h)
+same-entry (Entry.input a t) (Entry.output b u) h = let z : ⊥ = omega (arith, ap (λ (x : RecordAnswer). x .kind) h) in absurd z
+same-entry (Entry.input a t) (Entry.gap u) h = let z : ⊥ = omega (arith, ap (λ (x : RecordAnswer). x .kind) h) in absurd z
+same-entry (Entry.output a t) (Entry.input b u) h = let z : ⊥ = omega (arith, ap (λ (x : RecordAnswer). x .kind) h) in absurd z
+same-entry (Entry.output a t) (Entry.output b u) h = ap₂ Entry.output (ap (λ (x : RecordAnswer). x .action) h) (ap (λ (x : RecordAnswer). x .stamp) h)
+same-entry (Entry.output a t) (Entry.gap u) h = let z : ⊥ = omega (arith, ap (λ (x : RecordAnswer). x .kind) h) in absurd z
+same-entry (Entry.gap t) (Entry.input b u) h = let z : ⊥ = omega (arith, ap (λ (x : RecordAnswer). x .kind) h) in absurd z
+same-entry (Entry.gap t) (Entry.output b u) h = let z : ⊥ = omega (arith, ap (λ (x : RecordAnswer). x .kind) h) in absurd z
+same-entry (Entry.gap t) (Entry.gap u) h = ap Entry.gap (ap (λ (x : RecordAnswer). x .stamp) h)
 
 not-end : (e : Entry) → (action stamp : ℕ) → taken (kind-of e) (action-of e) (stamp-of e) ≡ taken Record.end action stamp → ⊥
-not-end (Entry.input a t) action stamp h = omega (arith, ap (λ (x : Answer). x .kind) h)
-not-end (Entry.output a t) action stamp h = omega (arith, ap (λ (x : Answer). x .kind) h)
-not-end (Entry.gap t) action stamp h = omega (arith, ap (λ (x : Answer). x .kind) h)
+not-end (Entry.input a t) action stamp h = omega (arith, ap (λ (x : RecordAnswer). x .kind) h)
+not-end (Entry.output a t) action stamp h = omega (arith, ap (λ (x : RecordAnswer). x .kind) h)
+not-end (Entry.gap t) action stamp h = omega (arith, ap (λ (x : RecordAnswer). x .kind) h)
 
 pub taken-as-one : (s : List ℕ) (before : ℕ) (trace other : List Entry) → TakenAs s before trace → TakenAs s before other → trace ≡ other
 taken-as-one s before [] [] h k = refl

@@ -1,5 +1,5 @@
--- What the writer writes: the fields put into a list of bits, and the bits packed. Assumes nothing.
-use Prim.Native.Nat.{ℕ, zero, suc, _+_, _-_, _≤_}
+-- What the writer writes: the fields put into a list of bits, and the bits packed.
+use Prim.Native.Nat.{ℕ, _-_, _≤_}
 use mathlib.Core.Bool.{false, not}
 use mathlib.Core.Path.{_≡_, refl, sym, _∙_, ap}
 use mathlib.Core.List.{List, [], _++_, append-nil}
@@ -8,10 +8,11 @@ use lib.Seq.{paste}
 use lib.Dec.{eqb}
 use borrow.Author.Tests.{ltb-false}
 use Rattle.meaning.specs.Limits.{last-action}
+use Rattle.meaning.proofs.Refusals.{given-none, none-first, unless-taken, unless-kept}
 use Rattle.fields.specs.Fields.{bits, at, packed, size, form, Bits}
-use Rattle.fields.proofs.Laws.{length-bits, paste-behind, Bits-append, Bits-bits, length-form}
-use Rattle.record_form.specs.Record.{broken, stamp-above, write-refusal, record-form, placed, written}
-use Rattle.record_form.proofs.Reading.{none-first, none-given}
+use Rattle.fields.proofs.Laws.{length-bits}
+use Rattle.fields.proofs.Packed.{paste-behind, Bits-append, Bits-bits, length-form}
+use Rattle.record_form.specs.Record.{broken, stamp-above, write-refusal, record-form, written}
 
 -- "two bits of kind ..; 6 bits action; 40 bits of stamp"
 abbrev pub record-bits : ℕ → ℕ → ℕ → List ℕ
@@ -60,27 +61,25 @@ pub is-writable : (kind action stamp before room : ℕ) → write-refusal kind a
     → Writable kind action stamp before room
 unfolding write-refusal
 is-writable kind action stamp before room e =
-    let p8 = none-first 7 _ _ e in
-    let p3 = none-first 2 _ _ (p8 .1) in
-    let p4 = none-first 3 _ _ (p3 .1) in
-    let p5 = none-first 4 _ _ (p4 .1) in
+    let p8 = none-first 7 _ e in
+    let p3 = none-first 2 _ (p8 .1) in
+    let p4 = none-first 3 _ (p3 .1) in
+    let p5 = none-first 4 _ (p4 .1) in
     record {
       sound = p8 .0;
       action-fits = ltb-false _ _ (p3 .0);
       in-range = p4 .0;
       not-below = ltb-false _ _ (p5 .0);
-      fits = ltb-false _ _ (none-given 8 _ (p5 .1));
+      fits = ltb-false _ _ (given-none 8 _ (p5 .1));
     }
 
-pub written-refused : (kind action stamp before : ℕ) (buffer : List ℕ) (n : ℕ)
-    → n ≡ write-refusal kind action stamp before (length buffer) → (n ≡ 0 → ⊥)
-    → written kind action stamp before buffer ≡ buffer
-unfolding written placed
-written-refused kind action stamp before buffer zero e h = absurd (h refl)
-written-refused kind action stamp before buffer (suc n) e h = rw (sym e)
+module _ (kind action stamp before : ℕ) (buffer : List ℕ) where
+  pub written-refused : (n : ℕ) → n ≡ write-refusal kind action stamp before (length buffer) → (n ≡ 0 → ⊥)
+      → written kind action stamp before buffer ≡ buffer
+  unfolding written
+  written-refused n e h = unless-kept (write-refusal kind action stamp before (length buffer)) _ buffer (λ z. h (e ∙ z))
 
-pub written-form : (kind action stamp before : ℕ) (buffer : List ℕ) → write-refusal kind action stamp before (length buffer) ≡ 0
-    → written kind action stamp before buffer ≡ record-form kind action (stamp - before) ++ drop 6 buffer
-unfolding written placed
-written-form kind action stamp before buffer e =
-    rw (e, length-record-form kind action (stamp - before))
+  pub written-form : write-refusal kind action stamp before (length buffer) ≡ 0
+      → written kind action stamp before buffer ≡ record-form kind action (stamp - before) ++ drop 6 buffer
+  unfolding written
+  written-form e = unless-taken (write-refusal kind action stamp before (length buffer)) _ buffer e

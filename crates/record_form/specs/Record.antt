@@ -7,6 +7,7 @@ use lib.ListN.{length, drop, getD}
 use lib.Dec.{ltb, eqb}
 use Rattle.meaning.specs.Limits.{last-action, last-stamp}
 use Rattle.meaning.specs.Numbers.{given, first-of}
+use Rattle.meaning.specs.Calls.{unless-refused}
 use Rattle.fields.specs.Fields.{field, bits, form}
 use Rattle.record_form.specs.declared.RecordRead.{RecordRead}
 use Rattle.record_form.specs.declared.RecordRead.the-variants.{Input, Output, Gap, End, Refused}
@@ -29,27 +30,26 @@ abbrev pub end : ℕ
 end = 3
 
 -- "Numbers that come back": the refusal, 0 for none, and the record's values.
-pub record Answer : Type 0 where
+pub record RecordAnswer : Type 0 where
   pub refusal : ℕ
   pub kind : ℕ
   pub action : ℕ
   pub stamp : ℕ
 
 -- "0: taken"
-abbrev pub taken : ℕ → ℕ → ℕ → Answer
+abbrev pub taken : ℕ → ℕ → ℕ → RecordAnswer
 taken kind action stamp = record { refusal = 0; kind = kind; action = action; stamp = stamp }
 
 -- "A refusal carries 0 in all other numbers"
-abbrev pub refused : ℕ → Answer
+abbrev pub refused : ℕ → RecordAnswer
 refused number = record { refusal = number; kind = 0; action = 0; stamp = 0 }
 
 -- The answer with this refusal, or where there is none (0) the one given.
-unfoldable pub unless-refused : ℕ → Answer → Answer
-unless-refused zero answer = answer
-unless-refused (suc number) answer = refused (suc number)
+unfoldable pub answered : ℕ → RecordAnswer → RecordAnswer
+answered number answer = unless-refused number answer (refused number)
 
 -- "When an answer is an enum, a definition gives this paper's number and values for each of its cases."
-abbrev pub numbers : RecordRead → Answer
+abbrev pub numbers : RecordRead → RecordAnswer
 numbers (Input action stamp) = taken input action stamp
 numbers (Output action stamp) = taken output action stamp
 numbers (Gap stamp) = taken gap 0 stamp
@@ -65,7 +65,7 @@ case-by zero (suc (suc (suc more))) action stamp = End stamp
 case-by (suc number) kind action stamp = Refused (suc number)
 
 -- The case of the enum for an answer.
-abbrev pub case-of : Answer → RecordRead
+abbrev pub case-of : RecordAnswer → RecordRead
 case-of answer = case-by (answer .refusal) (answer .kind) (answer .action) (answer .stamp)
 
 -- "Broken is: .. a gap with action not 0, an end with action or stamp field not 0 .., a kind to be written above 3."
@@ -91,9 +91,9 @@ read-refusal s before =
     (fields-refusal (field s 0 2) (field s 2 6) (field s 8 40) before)
 
 -- What the record reader, "given the stamp before", answers to the bytes s.
-unfoldable pub record-answer : List ℕ → ℕ → Answer
+unfoldable pub record-answer : List ℕ → ℕ → RecordAnswer
 record-answer s before =
-    unless-refused (read-refusal s before) (taken (field s 0 2) (field s 2 6) (before + field s 8 40))
+    answered (read-refusal s before) (taken (field s 0 2) (field s 2 6) (before + field s 8 40))
 
 -- What `read_record` promises: its answer, and that answer in document 01's numbers.
 pub record IsRead (s : List ℕ) (before : ℕ) (r : RecordRead) : Type 0 where
@@ -102,7 +102,7 @@ pub record IsRead (s : List ℕ) (before : ℕ) (r : RecordRead) : Type 0 where
 
 -- The number of bytes that the reader takes: "A reader takes one form from the front"; refused, none.
 unfoldable pub bytes-read : List ℕ → ℕ → ℕ
-bytes-read s before = given record-size (eqb (read-refusal s before) 0)
+bytes-read s before = unless-refused (read-refusal s before) record-size 0
 
 -- 8, 3, 4, 5 and 9 of a record to be written into a buffer of so many bytes; the stamp field is not 0 where the stamp is
 -- other than the one before ("so its stamp is the one before").
@@ -121,15 +121,13 @@ Bytes s = (i : ℕ) → getD s i 0 < 256
 unfoldable pub record-form : ℕ → ℕ → ℕ → List ℕ
 record-form kind action less = form (bits 2 kind ++ bits 6 action ++ bits 40 less)
 
--- The buffer afterwards: "Bytes behind what a writer wrote stay"; refused, "nothing changed".
-unfoldable pub placed : ℕ → List ℕ → List ℕ → List ℕ
-placed zero bytes buffer = bytes ++ drop (length bytes) buffer
-placed (suc number) bytes buffer = buffer
-
--- What the writer, "given the stamp before", leaves in the buffer.
+-- What the writer, "given the stamp before", leaves in the buffer: "Bytes behind what a writer wrote stay"; refused, "nothing
+-- changed".
 unfoldable pub written : ℕ → ℕ → ℕ → ℕ → List ℕ → List ℕ
 written kind action stamp before buffer =
-    placed (write-refusal kind action stamp before (length buffer)) (record-form kind action (stamp - before)) buffer
+    unless-refused (write-refusal kind action stamp before (length buffer))
+    (record-form kind action (stamp - before) ++ drop record-size buffer)
+    buffer
 
 -- What `write_record` promises: the number that comes back, and every byte of the buffer.
 pub record IsWritten (kind action stamp before : ℕ) (buffer after : List ℕ) (r : ℕ) : Type 0 where

@@ -3,6 +3,8 @@ use Prim.Native.Nat.{ℕ, _-_}
 use mathlib.Core.List.{List, [], _∷_, _++_}
 use mathlib.Core.Path.{_≡_}
 use lib.ListN.{drop}
+use Rattle.meaning.specs.Words.{Action}
+use Rattle.meaning.specs.Calls.{Call, mark-at}
 use Rattle.record_form.specs.Record
 use Rattle.record_form.specs.Record.{taken, record-size, record-answer, write-refusal, record-form}
 
@@ -26,6 +28,12 @@ abbrev pub stamp-of : Entry → ℕ
 stamp-of (Entry.input action stamp) = stamp
 stamp-of (Entry.output action stamp) = stamp
 stamp-of (Entry.gap stamp) = stamp
+
+-- The call on a session that an entry stands for.
+abbrev pub entry-call : Entry → Call
+entry-call (Entry.input action stamp) = Call.line (record { action = Action.input action; stamp = stamp })
+entry-call (Entry.output action stamp) = Call.line (record { action = Action.output action; stamp = stamp })
+entry-call (Entry.gap stamp) = mark-at stamp
 
 -- The trace that is written from a stamp before: each record's form, and then the end record's, whose "stamp is the one before".
 unfoldable pub trace-form : ℕ → List Entry → List ℕ

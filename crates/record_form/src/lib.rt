@@ -6,13 +6,12 @@ ghost use lib.ListN.{length, drop};
 ghost use lib.Dec.{eqb};
 ghost use Rattle.fields.specs.Fields.{field};
 ghost use Rattle.fields.specs.Rest.{Rest};
-ghost use Rattle.record_form.specs.Record.{record-size, numbers, case-of, taken, unless-refused, broken, stamp-above, fields-refusal, IsRead, bytes-read, write-refusal, record-form, IsWritten};
+ghost use Rattle.record_form.specs.Record.{record-size, numbers, case-of, taken, answered, broken, stamp-above, fields-refusal, IsRead, bytes-read, write-refusal, record-form, IsWritten};
+use limits::LAST_ACTION;
+use limits::LAST_STAMP;
 
-const RECORD_SIZE: usize = 6;
-
-const LAST_ACTION: u8 = 63;
-
-const LAST_STAMP: u64 = 1099511627775;
+// "Record, 6 bytes"
+pub const RECORD_SIZE: usize = 6;
 
 // What the reader answers: one of four records, or the number of a refusal.
 pub enum RecordRead {
@@ -24,6 +23,22 @@ pub enum RecordRead {
     End(u64),
     // The number.
     Refused(u64),
+}
+
+// The two bits of kind.
+fn kind_field(s: &[u8]) -> u64
+    requires { ⌜ record-size ≤ length (now s) ⌝ }
+    ensures { λ r. ⌜ r ≡ field (now (s .entry)) 0 2 ⌝ }
+{
+    fields::field_at(s, 0, 2)
+}
+
+// The 6 bits of action.
+fn action_field(s: &[u8]) -> u8
+    requires { ⌜ record-size ≤ length (now s) ⌝ }
+    ensures { λ r. ⌜ r ≡ field (now (s .entry)) 2 6 ⌝ }
+{
+    fields::field_at(s, 2, 6) as u8
 }
 
 // The 40 bits of stamp, which is less the stamp before.
@@ -47,7 +62,7 @@ fn sum_above(before: u64, less: u64) -> bool
 // The record that these fields are, by its kind, each with its own rules.
 fn record_of(kind: u64, action: u8, less: u64, before: u64) -> RecordRead
     requires { ⌜ kind < 4 ⌝ }
-    ensures { λ r. ⌜ r ≡ case-of (unless-refused (fields-refusal kind action less before) (taken kind action (before + less))) ⌝ }
+    ensures { λ r. ⌜ r ≡ case-of (answered (fields-refusal kind action less before) (taken kind action (before + less))) ⌝ }
 {
     match kind {
         0 => {
@@ -94,10 +109,7 @@ pub fn read_record(s: &[u8], before: u64) -> RecordRead
     if s.len() < RECORD_SIZE {
         return RecordRead::Refused(7);
     }
-    let kind = fields::field_at(s, 0, 2);
-    let action = fields::field_at(s, 2, 6) as u8;
-    let less = stamp_field(s);
-    record_of(kind, action, less, before)
+    record_of(kind_field(s), action_field(s), stamp_field(s), before)
 }
 
 // The reader took a record.
@@ -167,20 +179,14 @@ fn refusal(kind: u8, action: u8, stamp: u64, before: u64, size: usize) -> u64
     0
 }
 
-fn wide(b: u8) -> u64
-    ensures { λ r. ⌜ r ≡ b ⌝ }
-{
-    b as u64
-}
-
 // Puts the form of a record with these fields at the front of `buf`.
 fn put_record(kind: u8, action: u8, less: u64, buf: &mut [u8])
     requires { ⌜ record-size ≤ length (now buf) ⌝ }
     ensures { λ _. ⌜ now (buf .exit) ≡ record-form kind action less ++ drop record-size (now (buf .entry)) ⌝ }
 {
     let mut list = [0u8; 48];
-    fields::put_field(&mut list, 0, 2, wide(kind));
-    fields::put_field(&mut list, 2, 6, wide(action));
+    fields::put_field(&mut list, 0, 2, fields::wide(kind));
+    fields::put_field(&mut list, 2, 6, fields::wide(action));
     fields::put_field(&mut list, 8, 40, less);
     fields::pack(&list, RECORD_SIZE, buf);
 }

@@ -1,4 +1,4 @@
--- `fields::bit_at` meets its contract: the byte, shifted, is the digit that `bit` names. Assumes nothing.
+-- `fields::bit_at` meets its contract: the byte, shifted, is the digit that `bit` names.
 use Prim.Native.Nat.{ℕ, _-_, _/_, _%_, _^_}
 use mathlib.Core.Path.{ap}
 use Rattle.fields.specs.Fields.{digit, bit}

@@ -1,4 +1,4 @@
--- `fields::byte_of` meets its contract. The loop's invariant: v is the number of the first k bits. Assumes nothing.
+-- `fields::byte_of` meets its contract. The loop's invariant: v is the number of the first k bits.
 use Prim.Native.Nat.{ℕ, _+_, _-_, _*_, _≤_}
 use mathlib.Core.Path.{_≡_, refl, ap, _∙_}
 use native.Mathlib.Nat.{le-antisymm}

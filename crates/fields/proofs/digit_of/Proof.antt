@@ -1,4 +1,4 @@
--- `fields::digit_of` meets its contract: a shift and a remainder are a digit. Assumes nothing.
+-- `fields::digit_of` meets its contract: a shift and a remainder are a digit.
 use mathlib.Core.Path.{refl}
 use Rattle.fields.specs.Fields.{digit}
 use borrow.Author.Needs.{needs}

@@ -1,4 +1,4 @@
--- `fields::field_at` meets its contract. The loop's invariant: v is the field of the first k bits. Assumes nothing.
+-- `fields::field_at` meets its contract. The loop's invariant: v is the field of the first k bits.
 use Prim.Native.Nat.{ℕ, _+_, _-_, _*_, _≤_}
 use mathlib.Core.Path.{_≡_, refl, ap, ap₂, _∙_}
 use native.Mathlib.Nat.{le-antisymm}

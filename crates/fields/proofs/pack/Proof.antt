@@ -1,4 +1,4 @@
--- `fields::pack` meets its contract. The loop's invariant: the first j bytes are packed, and those behind stand. Assumes nothing.
+-- `fields::pack` meets its contract. The loop's invariant: the first j bytes are packed, and those behind stand.
 use Prim.Native.Nat.{ℕ, _-_, _≤_}
 use mathlib.Core.Path.{_≡_, refl, ap, ap₂, _∙_}
 use mathlib.Core.List.{List, _++_}
@@ -7,7 +7,7 @@ use native.Mathlib.Omega.{arith}
 use borrow.Author.Needs.{needs}
 use lib.ListN.{length, length-set, set, drop}
 use Rattle.fields.specs.Fields.{at, packed}
-use Rattle.fields.proofs.Laws.{packed-store}
+use Rattle.fields.proofs.Packed.{packed-store}
 use Rattle.fields.proofs.pack.Statement.{statement}
 use Rattle.fields.proofs.pack.Tie as tie
 

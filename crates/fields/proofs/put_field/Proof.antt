@@ -1,4 +1,4 @@
--- `fields::put_field` meets its contract. The loop's invariant: the first j bits of the field stand in the list. Assumes nothing.
+-- `fields::put_field` meets its contract. The loop's invariant: the first j bits of the field stand in the list.
 use Prim.Native.Nat.{ℕ, _+_, _-_, _≤_}
 use mathlib.Core.Path.{_≡_, refl, sym, ap, ap₂, _∙_}
 use mathlib.Core.List.{List}

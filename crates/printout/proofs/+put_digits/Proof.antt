@@ -1,4 +1,4 @@
--- The proof of the cycle of calls {put_digits}. The measure is the number, which falls to its tenth. Assumes nothing.
+-- The proof of the cycle of calls {put_digits}. The measure is the number, which falls to its tenth.
 use native.Mathlib.Omega.{arith}
 use mathlib.Core.Path.{ap}
 use lib.ListN.{length}

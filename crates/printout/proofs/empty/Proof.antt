@@ -1,4 +1,4 @@
--- `printout::empty` meets its contract: 96 zeros are the room that no text leaves. Assumes nothing.
+-- `printout::empty` meets its contract: 96 zeros are the room that no text leaves.
 use mathlib.Core.Path.{refl}
 use Rattle.printout.specs.Text.{text-of}
 use Rattle.printout.proofs.empty.Statement.{statement}

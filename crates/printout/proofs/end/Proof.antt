@@ -1,4 +1,4 @@
--- `printout::end` meets its contract. Assumes nothing.
+-- `printout::end` meets its contract.
 use lib.Dec.{lit≤}
 use Rattle.printout.specs.Text.{end-text}
 use Rattle.printout.proofs.Growth.{then, whole}

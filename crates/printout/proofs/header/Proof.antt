@@ -1,4 +1,4 @@
--- `printout::header` meets its contract. Assumes nothing.
+-- `printout::header` meets its contract.
 use lib.Dec.{lit≤}
 use Rattle.printout.specs.Text.{header-text, text-of}
 use Rattle.printout.proofs.Growth.{whole}

@@ -1,4 +1,4 @@
--- `printout::letter_of` meets its contract. Assumes nothing.
+-- `printout::letter_of` meets its contract.
 use Prim.Native.Nat.{ℕ, zero, suc}
 use mathlib.Core.Path.{_≡_, refl, sym, ap}
 use Rattle.printout.specs.Text.{letter}

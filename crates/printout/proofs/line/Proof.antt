@@ -1,4 +1,4 @@
--- `printout::line` meets its contract: its parts, one after the other, are the line, of 94 bytes at most. Assumes nothing.
+-- `printout::line` meets its contract: its parts, one after the other, are the line, of 94 bytes at most.
 use Prim.Native.Nat.{ℕ}
 use mathlib.Core.Path.{_≡_}
 use mathlib.Core.List.{List, [], _∷_, _++_, append-assoc}
@@ -11,14 +11,28 @@ use Rattle.printout.proofs.line.Statement.{statement}
 use Rattle.printout.proofs.line.Tie as tie
 
 -- The parts of a line, put one after the other, are the line.
-regrouped : (n s k a t v o e : List ℕ) → ((((((((n ++ s) ++ k) ++ s) ++ (a ++ s)) ++ (t ++ s)) ++ v) ++ s) ++ o) ++ e ≡ n ++ (s ++ k) ++ (s ++ a) ++ (s ++ t) ++ (s ++ v) ++ (s ++ o) ++ e
+regrouped : (n s k a t v o e : List ℕ)
+    → ((((((((n ++ s) ++ k) ++ s) ++ (a ++ s)) ++ (t ++ s)) ++ v) ++ s) ++ o) ++ e
+    ≡ n ++ (s ++ k) ++ (s ++ a) ++ (s ++ t) ++ (s ++ v) ++ (s ++ o) ++ e
 regrouped n s k a t v o e = simp append-assoc
 
-joined : (number kind action stamp verdict open-count l a : ℕ) → l ≡ letter kind → a ≡ action → ((((((((decimal number ++ space ∷ []) ++ l ∷ []) ++ space ∷ []) ++ (decimal a ++ space ∷ [])) ++ (decimal stamp ++ space ∷ [])) ++ word verdict) ++ space ∷ []) ++ decimal open-count) ++ newline ∷ [] ≡ line-text number kind action stamp verdict open-count
+-- The bytes as they are put: a field is a number and the space behind it.
+abbrev field : ℕ → List ℕ
+field v = decimal v ++ space ∷ []
+
+abbrev parts : ℕ → ℕ → ℕ → ℕ → ℕ → ℕ → List ℕ
+parts number letter action stamp verdict open-count =
+    ((((((((field number) ++ letter ∷ []) ++ space ∷ []) ++ field action) ++ field stamp) ++ word verdict) ++ space ∷ [])
+    ++ decimal open-count)
+    ++ newline ∷ []
+
+joined : (number kind action stamp verdict open-count l a : ℕ) → l ≡ letter kind → a ≡ action
+    → parts number l a stamp verdict open-count ≡ line-text number kind action stamp verdict open-count
 unfolding line-text
 joined number kind action stamp verdict open-count l a is-letter is-action =
     rw (is-letter, is-action)
-    (regrouped (decimal number) (space ∷ []) (letter kind ∷ []) (decimal action) (decimal stamp) (word verdict) (decimal open-count) (newline ∷ []))
+    (regrouped (decimal number) (space ∷ []) (letter kind ∷ []) (decimal action) (decimal stamp) (word verdict)
+    (decimal open-count) (newline ∷ []))
 
 empty-requires : tie.Need-empty-requires
 empty-requires c κs = search needs
@@ -54,29 +68,37 @@ put-number-requires : tie.Need-put-number-requires
 put-number-requires c κs = search needs
 
 put-requires-4 : tie.Need-put-requires-4
-put-requires-4 c κs = omega (
-  arith,
-  c .before .before .before .before .before .before .before .before .before .before .empty .ensures .1,
-  c .before .before .before .before .before .before .before .before .before .put-field .ensures .longer,
-  c .before .before .before .before .before .before .before .put .ensures .longer,
-  c .before .before .before .before .before .before .put2 .ensures .longer,
-  c .before .before .before .before .put-field2 .ensures .longer,
-  c .before .before .before .put-field3 .ensures .longer,
-  c .before .before .put-verdict .ensures .longer,
-  c .before .put3 .ensures .longer,
-)
+put-requires-4 c κs =
+    let verdict = c .before in
+    let stamp = verdict .before .before in
+    let kind = stamp .before .before .before in
+    let number = kind .before .before .before in
+    omega (
+      arith,
+      number .before .empty .ensures .1,
+      number .put-field .ensures .longer,
+      kind .before .put .ensures .longer,
+      kind .put2 .ensures .longer,
+      stamp .before .put-field2 .ensures .longer,
+      stamp .put-field3 .ensures .longer,
+      verdict .before .put-verdict .ensures .longer,
+      verdict .put3 .ensures .longer,
+    )
 
 returns : tie.Need-returns
 returns c =
-    let letter-is = c .before .before .before .before .before .before .before .before .before .letter-of .ensures in
-    let action-is = c .before .before .before .before .before .before .wide .ensures in
-    let number = c .before .before .before .before .before .before .before .before .before .before .put-field .ensures in
-    let kind = then (then number (c .before .before .before .before .before .before .before .before .put .ensures)) (c .before .before .before .before .before .before .before .put2 .ensures) in
-    let action = then kind (c .before .before .before .before .before .put-field2 .ensures) in
-    let stamp = then action (c .before .before .before .before .put-field3 .ensures) in
-    let verdict = then (then stamp (c .before .before .before .put-verdict .ensures)) (c .before .before .put3 .ensures) in
-    let all = then (then verdict (c .before .put-number .ensures)) (c .put4 .ensures) in
-    whole (c .before .before .before .before .before .before .before .before .before .before .before .empty .ensures .0) (renamed (joined _ _ _ _ _ _ _ _ letter-is action-is) all) (lit≤ tt)
+    let verdict = c .before .before in
+    let stamp = verdict .before .before in
+    let action = stamp .before in
+    let kind = action .before .before in
+    let number = kind .before .before .before in
+    let to-kind = then (then (number .put-field .ensures) (kind .before .put .ensures)) (kind .put2 .ensures) in
+    let to-stamp = then (then to-kind (action .put-field2 .ensures)) (stamp .put-field3 .ensures) in
+    let to-verdict = then (then to-stamp (verdict .before .put-verdict .ensures)) (verdict .put3 .ensures) in
+    let all = then (then to-verdict (c .before .put-number .ensures)) (c .put4 .ensures) in
+    whole (number .before .empty .ensures .0)
+    (renamed (joined _ _ _ _ _ _ _ _ (kind .before .before .letter-of .ensures) (action .before .wide .ensures)) all)
+    (lit≤ tt)
 
 pub line-spec : {M : Type 1} → statement M
 line-spec =

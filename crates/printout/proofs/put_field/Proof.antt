@@ -1,4 +1,4 @@
--- `printout::put_field` meets its contract. Assumes nothing.
+-- `printout::put_field` meets its contract.
 use Rattle.printout.proofs.Growth.{then}
 use borrow.Author.Needs.{needs}
 use Rattle.printout.proofs.put_field.Statement.{statement}

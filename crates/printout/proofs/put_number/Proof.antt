@@ -1,4 +1,4 @@
--- `printout::put_number` meets its contract: no number has more than twenty digits. Assumes nothing.
+-- `printout::put_number` meets its contract: no number has more than twenty digits.
 use native.Mathlib.Omega.{arith}
 use Rattle.printout.proofs.Growth.{wider}
 use Rattle.printout.proofs.Digits.{length-decimal}

@@ -1,4 +1,4 @@
--- `printout::put_verdict` meets its contract, word by word. Assumes nothing.
+-- `printout::put_verdict` meets its contract, word by word.
 use Prim.Native.Nat.{ℕ, zero, suc}
 use mathlib.Core.Path.{_≡_, refl, sym, ap}
 use lib.Dec.{lit≤}

@@ -1,4 +1,4 @@
--- `printout::stop` meets its contract. Assumes nothing.
+-- `printout::stop` meets its contract.
 use mathlib.Core.List.{append-assoc}
 use lib.Dec.{lit≤}
 use Rattle.printout.specs.Text.{stop-text}

@@ -1,14 +1,9 @@
--- `property_form::property_rest` meets its contract: the part of the slice is the rest, in its place. Assumes nothing.
-use denote.Ref.{ptr, now}
-use native.Mathlib.Nat.{add-comm}
-use lib.ListN.{length-drop}
-use lib.Seq.{take-all}
-use Prim.Native.Nat.{ℕ, _+_, _-_}
-use mathlib.Core.Path.{refl, ap, _∙_}
-use native.Mathlib.Omega.{arith}
-use lib.ListN.{length, drop}
-use Rattle.property_form.proofs.Answers.{taken-le}
+-- `property_form::property_rest` meets its contract: the part of the slice is the rest, in its place.
 use borrow.Author.Needs.{needs}
+use mathlib.Core.Path.{refl, sym}
+use native.Mathlib.Omega.{arith}
+use Rattle.fields.proofs.Rest.{rest-part}
+use Rattle.property_form.proofs.Answers.{taken-le}
 use Rattle.property_form.proofs.property_rest.Statement.{statement}
 use Rattle.property_form.proofs.property_rest.Tie as tie
 
@@ -25,14 +20,7 @@ part-result-end : tie.Need-part-result-end
 part-result-end c = search needs
 
 returns : tie.Need-returns
-returns c =
-    let s = c .before .before .before .args .s in
-    let k = c .before .taken-by in
-    record {
-      bytes = take-all (length (now s) - k .result) (drop (k .result) (now s)) (omega (arith, length-drop (k .result) (now s)))
-          ∙ ap (λ (x : ℕ). drop x (now s)) (k .ensures);
-      place = ap (λ (x : ℕ). (ptr s .0, x)) (add-comm (k .result) (ptr s .1) ∙ ap (λ (x : ℕ). ptr s .1 + x) (k .ensures));
-    }
+returns c = rest-part (c .before .taken-by .result) _ _ _ (sym (c .before .taken-by .ensures)) refl (omega arith) refl
 
 pub property-rest-spec : {M : Type 1} → statement M
 property-rest-spec =

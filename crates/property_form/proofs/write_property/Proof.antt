@@ -1,4 +1,4 @@
--- `property_form::write_property` meets its contract: at each `return` the refusal is the first that holds; the last packs the bits. Assumes nothing.
+-- `property_form::write_property` meets its contract: at each `return` the refusal is the first that holds; the last packs the bits.
 use Prim.Native.Nat.{ℕ, _-_, _≤_, _<_}
 use mathlib.Core.Path.{_≡_, sym, ap, ap₂, _∙_, subst}
 use mathlib.Core.List.{List, _++_}
@@ -6,37 +6,23 @@ use native.Mathlib.Omega.{arith}
 use lib.ListN.{length, drop, replicate, length-append, length-replicate}
 use Rattle.meaning.specs.Numbers.{property-refusal}
 use Rattle.property.specs.Meant.{meant}
-use mathlib.Core.Bool.{false}
-use lib.ListN.{getD}
 use Rattle.property.specs.declared.Property.{Property}
-use Rattle.property.specs.Meant.{action-of}
-use Rattle.property.proofs.Sequence.{length-first}
 use Rattle.property.proofs.Refusal.{taken-bounds}
 use Rattle.fields.specs.Fields.{at, packed, Bits, form, size}
-use Rattle.fields.proofs.Laws.{Bits-append, Bits-zeros, packed-zeros, length-form}
+use Rattle.fields.proofs.Packed.{Bits-append, Bits-zeros, packed-zeros, length-form}
 use Rattle.property_form.specs.Form.{property-bits, property-form, form-bits, form-size}
-use Rattle.property_form.proofs.FormBits.{length-property, length-property-form, Bits-property}
+use Rattle.property_form.proofs.FormBits.{length-of-bits, length-of-form, Bits-property}
 use Rattle.property_form.proofs.Answers.{written-refused, left-refused, written-taken, left-taken, write-first, write-short, write-fits}
 use borrow.Author.Needs.{needs}
 use Rattle.property_form.proofs.write_property.Statement.{statement}
 use Rattle.property_form.proofs.write_property.Tie as tie
-
-size-is : (p : Property) → length (property-form (meant p)) ≡ form-size (p .n)
-size-is p =
-    length-property-form (meant p)
-    ∙ ap form-size (length-first (λ i. action-of (getD (p .output) i false) (getD (p .number) i 0)) (p .n))
-
-bits-are : (p : Property) → length (property-bits (meant p)) ≡ form-bits (p .n)
-bits-are p =
-    length-property (meant p)
-    ∙ ap form-bits (length-first (λ i. action-of (getD (p .output) i false) (getD (p .number) i 0)) (p .n))
 
 -- The bytes of the form.
 abbrev bytes : Property → ℕ
 bytes p = size (length (property-bits (meant p)))
 
 bits-size : (p : Property) → bytes p ≡ form-size (p .n)
-bits-size p = ap size (bits-are p)
+bits-size p = ap size (length-of-bits p)
 
 wrote : (p : Property) (buf : List ℕ) → form (property-bits (meant p)) ++ drop (bytes p) buf ≡ property-form (meant p) ++ drop (length (property-form (meant p))) buf
 unfolding property-form
@@ -47,13 +33,23 @@ length-list : (p : Property) (l : List ℕ) → l ≡ property-bits (meant p) ++
 length-list p l e h =
     ap length e
     ∙ length-append (property-bits (meant p)) (replicate (352 - form-bits (p .n)) 0)
-    ∙ omega (arith, bits-are p, length-replicate {A = ℕ} (352 - form-bits (p .n)) 0)
+    ∙ omega (arith, length-of-bits p, length-replicate {A = ℕ} (352 - form-bits (p .n)) 0)
 
 list-bits : (p : Property) (l : List ℕ) → l ≡ property-bits (meant p) ++ replicate (352 - form-bits (p .n)) 0 → Bits (at l)
 list-bits p l e i =
     subst (λ (x : List ℕ). at x i < 2) (sym e)
     (Bits-append (property-bits (meant p)) (replicate (352 - form-bits (p .n)) 0) (Bits-property (meant p))
     (Bits-zeros (352 - form-bits (p .n))) i)
+
+-- behind the first test the property is not refused
+abbrev P : tie.Else1 → Property
+P c = c .before .before .before .args .p
+
+abbrev B : tie.Else1 → List ℕ
+B c = c .before .before .before .args .buf .now
+
+unrefused : (c : tie.Else1) → property-refusal (meant (P c)) ≡ 0
+unrefused c = sym (c .before .refused .ensures) ∙ c .if1 .left
 
 refused-requires : tie.Need-refused-requires
 refused-requires c κs = search needs
@@ -69,34 +65,31 @@ returns c =
     )
 
 size-of-requires : tie.Need-size-of-requires
-size-of-requires c κs =
-    let p = c .before .before .before .args .p in
-    omega (arith, taken-bounds p (sym (c .before .refused .ensures) ∙ c .if1 .left))
+size-of-requires c κs = omega (arith, taken-bounds (P c) (unrefused c))
 
 returns-2 : tie.Need-returns-2
 returns-2 c =
-    let p = c .before .before .before .before .before .args .p in
-    let buf = c .before .before .before .before .before .args .buf .now in
-    let short = write-short (meant p) buf (sym (c .before .before .before .refused .ensures) ∙ c .before .before .if1 .left) (omega (arith, size-is p)) in (
-      written-refused (meant p) buf 9 (sym short) (λ e. let z : ⊥ = omega arith in z),
-      left-refused (meant p) buf (λ e. let z : ⊥ = omega arith in z),
+    let e = c .before .before in
+    let short = write-short (meant (P e)) (B e) (unrefused e) (omega (arith, length-of-form (P e))) in (
+      written-refused (meant (P e)) (B e) 9 (sym short) (λ e. let z : ⊥ = omega arith in z),
+      left-refused (meant (P e)) (B e) (λ e. let z : ⊥ = omega arith in z),
     )
 
 bits-of-requires : tie.Need-bits-of-requires
-bits-of-requires c κs =
-    let p = c .before .before .before .before .before .args .p in
-    omega (arith, taken-bounds p (sym (c .before .before .before .refused .ensures) ∙ c .before .before .if1 .left))
+bits-of-requires c κs = let e = c .before .before in omega (arith, taken-bounds (P e) (unrefused e))
 
 slice-aggregate-pack : tie.Need-slice-aggregate-pack
 slice-aggregate-pack c = search needs
 
 pack-requires : tie.Need-pack-requires
 pack-requires c κs =
-    let p = c .before .before .before .before .before .before .before .before .args .p in
-    let l = c .before .before .bits-of in
-    let t = taken-bounds p (sym (c .before .before .before .before .before .before .refused .ensures) ∙ c .before .before .before .before .before .if1 .left) in (
-      omega (arith, length-list p (l .result) (l .ensures) (t .most), c .before .before .before .before .size-of .ensures, t .most),
-      omega (arith, c .before .before .before .if2 .left),
+    let bits = c .before .before in
+    let size = bits .before .before in
+    let p = P (size .before) in
+    let l = bits .bits-of in
+    let t = taken-bounds p (unrefused (size .before)) in (
+      omega (arith, length-list p (l .result) (l .ensures) (t .most), size .size-of .ensures, t .most),
+      omega (arith, bits .before .if2 .left),
       list-bits p (l .result) (l .ensures),
     )
 
@@ -105,15 +98,15 @@ same-length c = search needs
 
 returns-3 : tie.Need-returns-3
 returns-3 c =
-    let p = c .before .before .before .before .before .before .before .before .before .before .before .args .p in
-    let buf = c .before .before .before .before .before .before .before .before .before .before .before .args .buf .now in
-    let l = c .before .before .before .before .before .bits-of in
-    let size = c .before .before .before .before .before .before .before .size-of in
-    let fits = write-fits (meant p) buf (sym (c .before .before .before .before .before .before .before .before .before .refused .ensures) ∙ c .before .before .before .before .before .before .before .before .if1 .left)
-    (omega (arith, size-is p, size .ensures, c .before .before .before .before .before .before .if2 .left)) in (
-      written-taken (meant p) buf (size .result) fits (size .ensures ∙ sym (size-is p)),
+    let bits = c .before .before .before .before .before in
+    let size = bits .before .before in
+    let p = P (size .before) in
+    let buf = B (size .before) in
+    let k = size .size-of in
+    let fits = write-fits (meant p) buf (unrefused (size .before)) (omega (arith, length-of-form p, k .ensures, bits .before .if2 .left)) in (
+      written-taken (meant p) buf (k .result) fits (k .ensures ∙ sym (length-of-form p)),
       c .before .before .pack .ensures
-          ∙ ap₂ (λ (x : List ℕ) (k : ℕ). packed (at x) k ++ drop k buf) (l .ensures) (size .ensures ∙ sym (bits-size p))
+          ∙ ap₂ (λ (x : List ℕ) (k : ℕ). packed (at x) k ++ drop k buf) (bits .bits-of .ensures) (k .ensures ∙ sym (bits-size p))
           ∙ ap (λ (x : List ℕ). x ++ drop (bytes p) buf) (packed-zeros (property-bits (meant p)) (352 - form-bits (p .n)))
           ∙ wrote p buf
           ∙ left-taken (meant p) buf fits,

@@ -1,4 +1,4 @@
--- `record_form::is_taken` meets its contract. Assumes nothing.
+-- `record_form::is_taken` meets its contract.
 use mathlib.Core.Path.{sym, ap}
 use mathlib.Core.Bool.{Bool}
 use lib.Dec.{eqb}

@@ -1,4 +1,4 @@
--- `record_form::put_record` meets its contract: the list of bits is the record's. Assumes nothing.
+-- `record_form::put_record` meets its contract: the list of bits is the record's.
 use borrow.Author.Needs.{needs}
 use Prim.Native.Nat.{ℕ}
 use native.Mathlib.Omega.{arith}

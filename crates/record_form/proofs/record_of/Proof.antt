@@ -1,4 +1,4 @@
--- `record_form::record_of` meets its contract: each arm's tests say which case of the rule holds. Assumes nothing.
+-- `record_form::record_of` meets its contract: each arm's tests say which case of the rule holds.
 use borrow.Author.Needs.{needs}
 use Prim.Native.Nat.{ℕ, _+_, _<_}
 use mathlib.Core.Path.{_≡_, refl, sym, _∙_, ap, ap₂}
@@ -9,7 +9,8 @@ use mir.Val.{Fits}
 use mir.Syntax.{w64}
 use Rattle.record_form.specs.declared.RecordRead.the-variants.{End}
 use Rattle.record_form.specs.Record.{broken, stamp-above}
-use Rattle.record_form.proofs.Rules.{before-past, none-past, within, broken-line, broken-gap, broken-end, is-0, not-0, answer-broken, answer-above, answer-taken, case-input, case-output, case-gap, case-end}
+use Rattle.record_form.proofs.Rules.{before-past, none-past, within, broken-line, broken-gap, broken-end, is-0, not-0}
+use Rattle.record_form.proofs.Rules.{answer-broken, answer-above, answer-taken, case-input, case-output, case-gap, case-end}
 use Rattle.record_form.proofs.record_of.Statement.{statement}
 use Rattle.record_form.proofs.record_of.Tie as tie
 

@@ -1,45 +1,38 @@
--- `record_form::record_rest` meets its contract. Assumes nothing.
+-- `record_form::record_rest` meets its contract: where the reader takes, the part behind six bytes; else the slice itself.
 use borrow.Author.Needs.{needs}
-use borrow.Author.Tests.{eqb-true}
+use borrow.Author.Tests.{eqb-true, eqb-false}
 use native.Mathlib.Omega.{arith}
-use Prim.Native.Nat.{ℕ, _-_, _≤_}
+use Prim.Native.Nat.{ℕ, _-_}
 use mathlib.Core.Path.{_≡_, refl, sym, _∙_, ap}
-use mathlib.Core.Bool.{Bool, true, false}
 use mathlib.Core.List.{List}
-use lib.Dec.{eqb}
 use lib.ListN.{length}
 use lib.Seq.{take-all}
-use denote.Ref.{now}
-use Rattle.record_form.specs.declared.RecordRead.{RecordRead}
-use Rattle.record_form.specs.Record.{Answer, numbers, record-answer, read-refusal}
-use Rattle.record_form.proofs.Reading.{is-taken, refusal-of, size-taken, size-refused, rest-part}
+use denote.Ref.{RefT, now}
+use Rattle.fields.proofs.Rest.{rest-part}
+use Rattle.record_form.specs.Record.{RecordAnswer, numbers, read-refusal}
+use Rattle.record_form.proofs.Reading.{Readable, is-taken, refusal-of, size-taken, size-refused}
 use Rattle.record_form.proofs.record_rest.Statement.{statement}
 use Rattle.record_form.proofs.record_rest.Tie as tie
 
--- the code's test is the rule's
-test : (s : List ℕ) (before : ℕ) (r : RecordRead) (b t : Bool) → numbers r ≡ record-answer s before
-    → b ≡ eqb (numbers r .refusal) 0 → b ≡ t → eqb (read-refusal s before) 0 ≡ t
-test s before r b t e h k =
-    ap (λ (n : ℕ). eqb n 0) (sym (refusal-of s before))
-    ∙ ap (λ (a : Answer). eqb (a .refusal) 0) (sym e)
-    ∙ sym h
-    ∙ k
+-- what the test behind the two calls is of
+abbrev S : tie.After-is-taken → RefT (List ℕ)
+S c = c .before .before .before .args .s
 
--- where the test holds, and where it fails
-is-taken-there : (c : tie.Then1)
-    → eqb (read-refusal (now (c .before .before .before .before .args .s)) (c .before .before .before .before .args .before)) 0 ≡ true
-is-taken-there c =
-    test _ _ (c .before .before .read-record .result) _ _ (c .before .before .read-record .ensures .in-numbers)
-    (c .before .is-taken .ensures) (c .if1 .taken)
+abbrev before : tie.After-is-taken → ℕ
+before c = c .before .before .before .args .before
 
-six : (c : tie.Then1) → 6 ≤ length (now (c .before .before .before .before .args .s))
-six c = is-taken _ _ (eqb-true _ 0 (is-taken-there c)) .size
+-- the number that is tested is the rule's
+number : (c : tie.After-is-taken) → numbers (c .before .read-record .result) .refusal ≡ read-refusal (now (S c)) (before c)
+number c = ap (λ (a : RecordAnswer). a .refusal) (c .before .read-record .ensures .in-numbers) ∙ refusal-of _ _
 
-is-refused-there : (c : tie.Else1)
-    → eqb (read-refusal (now (c .before .before .before .before .args .s)) (c .before .before .before .before .args .before)) 0 ≡ false
-is-refused-there c =
-    test _ _ (c .before .before .read-record .result) _ _ (c .before .before .read-record .ensures .in-numbers)
-    (c .before .is-taken .ensures) (c .if1 .left)
+none-refused : (c : tie.Then1) → read-refusal (now (S (c .before))) (before (c .before)) ≡ 0
+none-refused c = sym (number (c .before)) ∙ eqb-true _ 0 (sym (c .before .is-taken .ensures) ∙ c .if1 .taken)
+
+one-refused : (c : tie.Else1) → read-refusal (now (S (c .before))) (before (c .before)) ≡ 0 → ⊥
+one-refused c e = eqb-false _ 0 (sym (c .before .is-taken .ensures) ∙ c .if1 .left) (number (c .before) ∙ e)
+
+there : (c : tie.Then1) → Readable (now (S (c .before))) (before (c .before))
+there c = is-taken _ _ (none-refused c)
 
 read-record-requires : tie.Need-read-record-requires
 read-record-requires c κs = search needs
@@ -48,22 +41,21 @@ is-taken-requires : tie.Need-is-taken-requires
 is-taken-requires c κs = search needs
 
 sub-result : tie.Need-sub-result
-sub-result c = omega (arith, six c)
+sub-result c = omega (arith, there c .size)
 
 part-result-start : tie.Need-part-result-start
-part-result-start c = omega (arith, six c)
+part-result-start c = omega (arith, there c .size)
 
 part-result-end : tie.Need-part-result-end
 part-result-end c = search needs
 
 returns : tie.Need-returns
-returns c = rest-part 6 _ _ _ (size-taken _ _ (is-taken-there (c .before))) refl (omega arith) refl
+returns c = rest-part 6 _ _ _ (size-taken _ _ (none-refused (c .before))) refl (omega arith) refl
 
 returns-2 : tie.Need-returns-2
 returns-2 c =
-    let s = now (c .before .before .before .before .args .s) in
-    rest-part 0 _ _ _ (size-refused _ _ (is-refused-there c)) refl (omega arith)
-    (sym (take-all (length s - 0) s (omega arith)))
+    let s = now (S (c .before)) in
+    rest-part 0 _ _ _ (size-refused _ _ (one-refused c)) refl (omega arith) (sym (take-all (length s - 0) s (omega arith)))
 
 pub record-rest-spec : {M : Type 1} → statement M
 record-rest-spec =

@@ -1,4 +1,4 @@
--- `record_form::sum_above` meets its contract. Assumes nothing.
+-- `record_form::sum_above` meets its contract.
 use mathlib.Core.Path.{sym}
 use Rattle.record_form.proofs.Rules.{before-past, sum-past}
 use Rattle.record_form.proofs.sum_above.Statement.{statement}

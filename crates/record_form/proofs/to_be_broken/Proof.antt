@@ -1,4 +1,4 @@
--- `record_form::to_be_broken` meets its contract. Assumes nothing.
+-- `record_form::to_be_broken` meets its contract.
 use Prim.Native.Nat.{ℕ, _<_}
 use mathlib.Core.Path.{_≡_, refl, sym, _∙_, ap₂}
 use mathlib.Core.Bool.{_||_}

@@ -1,4 +1,4 @@
--- `record_form::write_record` meets its contract. Assumes nothing.
+-- `record_form::write_record` meets its contract.
 use borrow.Author.Needs.{needs}
 use Prim.Native.Nat.{ℕ}
 use mathlib.Core.Path.{_≡_, sym, _∙_}

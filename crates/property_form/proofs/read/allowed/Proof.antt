@@ -1,4 +1,4 @@
--- `property_form::read::allowed` meets its contract. The loop's invariant: m is the mask of the first k bits. Assumes nothing.
+-- `property_form::read::allowed` meets its contract. The loop's invariant: m is the mask of the first k bits.
 use Prim.Native.Nat.{ℕ, _+_, _-_, _*_, _%_, _^_, _≤_, _<_}
 use mathlib.Core.Path.{_≡_, refl, ap, ap₂, _∙_}
 use mathlib.Core.List.{List}

@@ -1,4 +1,4 @@
--- `property_form::read::broken` meets its contract: at each `return` the tests say which of 7 and 8 holds. Assumes nothing.
+-- `property_form::read::broken` meets its contract: at each `return` the tests say which of 7 and 8 holds.
 use Prim.Native.Nat.{ℕ, _+_, _-_, _*_}
 use mathlib.Core.Path.{_≡_, refl, sym, ap, ap₂, _∙_}
 use mathlib.Core.Bool.{Bool, true, false, not}
@@ -24,6 +24,14 @@ pad s n size v en es e =
 -- which of the two holds
 judged : (s : List ℕ) (short broken : Bool) → too-short s ≡ short → pad-broken s ≡ broken → first-of (given 7 short) (given 8 broken) ≡ broken-of s
 judged s short broken es eb = sym (ap₂ (λ (x y : Bool). first-of (given 7 x) (given 8 y)) es eb)
+
+abbrev S : tie.After-field-at → List ℕ
+S c = c .before .before .before .before .before .before .args .s .now
+
+is-pad : (c : tie.After-field-at) → c .field-at .result ≡ pad-read (S c)
+is-pad c =
+    let size = c .before .before in
+    pad (S c) _ _ _ (size .before .length-of .ensures .0) (size .size-of .ensures) (c .field-at .ensures)
 
 returns : tie.Need-returns
 returns c =
@@ -58,25 +66,15 @@ field-at-requires c κs = search needs
 
 returns-3 : tie.Need-returns-3
 returns-3 c =
-    let s = c .before .before .before .before .before .before .before .args .s .now in
-    let n = c .before .before .before .before .length-of in
-    let size = c .before .before .before .size-of in
-    let v = c .before .field-at in
+    let s = S (c .before) in
     judged s false false (le-ltb (length s) (form-size (length-read s)) (omega arith))
-    (ap not
-    (eq-eqb (pad-read s) 0
-    (sym (pad s (n .result) (size .result) (v .result) (n .ensures .0) (size .ensures) (v .ensures)) ∙ c .if3 .taken)))
+    (ap not (eq-eqb (pad-read s) 0 (sym (is-pad (c .before)) ∙ c .if3 .taken)))
 
 returns-4 : tie.Need-returns-4
 returns-4 c =
-    let s = c .before .before .before .before .before .before .before .args .s .now in
-    let n = c .before .before .before .before .length-of in
-    let size = c .before .before .before .size-of in
-    let v = c .before .field-at in
+    let s = S (c .before) in
     judged s false true (le-ltb (length s) (form-size (length-read s)) (omega arith))
-    (ap not
-    (ne-eqb (pad-read s) 0
-    (λ e. c .if3 .left (pad s (n .result) (size .result) (v .result) (n .ensures .0) (size .ensures) (v .ensures) ∙ e))))
+    (ap not (ne-eqb (pad-read s) 0 (λ e. c .if3 .left (is-pad (c .before) ∙ e))))
 
 pub broken-spec : {M : Type 1} → statement M
 broken-spec =

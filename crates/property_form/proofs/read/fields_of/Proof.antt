@@ -1,4 +1,4 @@
--- `property_form::read::fields_of` meets its contract: the callees' results, field by field. Assumes nothing.
+-- `property_form::read::fields_of` meets its contract: the callees' results, field by field.
 use Prim.Native.Nat.{ℕ, _+_, _*_}
 use mathlib.Core.Path.{_≡_, ap, _∙_}
 use mathlib.Core.Bool.{Bool, false}
@@ -48,7 +48,13 @@ field-at-requires-2 c κs = search needs
 
 returns : tie.Need-returns
 unfolding property-read
-returns c = fields (c .before .before .before .before .before .before .args .s .now) (c .before .before .before .before .before .before .args .n) (c .before .before .before .before .before .before .pre .0) _ _ _ _ _ (c .before .before .before .before .outputs .ensures) (c .before .before .before .numbers .ensures) (c .before .before .allowed .ensures) (c .before .field-at .ensures) (c .field-at2 .ensures)
+returns c =
+    let mask = c .before .before in
+    let numbers = mask .before in
+    let outputs = numbers .before in
+    let start = outputs .before .before in
+    fields (start .args .s .now) (start .args .n) (start .pre .0) _ _ _ _ _ (outputs .outputs .ensures) (numbers .numbers .ensures)
+    (mask .allowed .ensures) (c .before .field-at .ensures) (c .field-at2 .ensures)
 
 pub fields-of-spec : {M : Type 1} → statement M
 fields-of-spec =

@@ -1,4 +1,4 @@
--- `property_form::read::length_of` meets its contract: six bits are a number below 64. Assumes nothing.
+-- `property_form::read::length_of` meets its contract: six bits are a number below 64.
 use native.Mathlib.Omega.{arith}
 use Rattle.fields.specs.Fields.{bit}
 use Rattle.fields.proofs.Laws.{bit-lt, number-lt}

@@ -1,4 +1,4 @@
--- `property_form::read::numbers` meets its contract. The loop's invariant: the first i places are read, the others stand. Assumes nothing.
+-- `property_form::read::numbers` meets its contract. The loop's invariant: the first i places are read, the others stand.
 use Prim.Native.Nat.{ℕ, _+_, _-_, _*_, _≤_}
 use mathlib.Core.Path.{_≡_, refl, ap, ap₂, _∙_}
 use mathlib.Core.List.{List}
@@ -6,7 +6,7 @@ use native.Mathlib.Nat.{le-antisymm}
 use native.Mathlib.Omega.{arith}
 use borrow.Author.Needs.{needs}
 use lib.ListN.{set}
-use Rattle.property.specs.Meant.{first}
+use Rattle.laws.specs.Places.{first}
 use Rattle.fields.specs.Fields.{bit, number}
 use Rattle.fields.proofs.Laws.{bit-lt, number-lt}
 use Rattle.property_form.specs.Read.{places, number-read}

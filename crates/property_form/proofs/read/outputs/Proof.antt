@@ -1,4 +1,4 @@
--- `property_form::read::outputs` meets its contract. The loop's invariant: the first i places are read, the others stand. Assumes nothing.
+-- `property_form::read::outputs` meets its contract. The loop's invariant: the first i places are read, the others stand.
 use Prim.Native.Nat.{ℕ, _-_, _≤_}
 use mathlib.Core.Path.{_≡_, refl, ap, ap₂, _∙_}
 use mathlib.Core.Bool.{Bool, false}
@@ -8,7 +8,7 @@ use native.Mathlib.Omega.{arith}
 use borrow.Author.Needs.{needs}
 use lib.Dec.{eqb}
 use lib.ListN.{set}
-use Rattle.property.specs.Meant.{first}
+use Rattle.laws.specs.Places.{first}
 use Rattle.property_form.specs.Read.{places, output-read}
 use Rattle.property_form.proofs.Laws.{places-store}
 use Rattle.property_form.proofs.read.outputs.Statement.{statement}

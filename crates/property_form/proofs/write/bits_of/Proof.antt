@@ -1,4 +1,4 @@
--- `property_form::write::bits_of` meets its contract: five puts, one right behind the other. Assumes nothing.
+-- `property_form::write::bits_of` meets its contract: five puts, one right behind the other.
 use Rattle.property_form.proofs.FormBits.{put-all}
 use borrow.Author.Needs.{needs}
 use Rattle.property_form.proofs.write.bits_of.Statement.{statement}
@@ -42,9 +42,14 @@ put-allowed-requires c κs = search needs
 
 returns : tie.Need-returns
 returns c =
-    put-all (c .before .before .before .before .before .before .before .before .before .before .before .before .before .before .before .before .before .args .p) (c .before .before .before .before .before .before .before .before .before .before .before .before .before .put-field .last .0) (c .before .before .before .before .before .before .before .before .before .before .put-field2 .last .0) (c .before .before .before .before .before .before .before .put-field3 .last .0)
-    (c .before .before .before .before .put-actions .last .0) (c .before .put-allowed .last .0) (c .before .before .before .before .before .before .before .before .before .before .before .before .before .put-field .ensures) (c .before .before .before .before .before .before .before .before .before .before .put-field2 .ensures)
-    (c .before .before .before .before .before .before .before .put-field3 .ensures) (c .before .before .before .before .put-actions .ensures) (c .before .put-allowed .ensures)
+    let five = c .before in
+    let four = five .before .before .before in
+    let three = four .before .before .before in
+    let two = three .before .before .before in
+    let one = two .before .before .before in
+    put-all (one .before .before .before .before .args .p) (one .put-field .last .0) (two .put-field2 .last .0) (three .put-field3 .last .0)
+    (four .put-actions .last .0) (five .put-allowed .last .0) (one .put-field .ensures) (two .put-field2 .ensures)
+    (three .put-field3 .ensures) (four .put-actions .ensures) (five .put-allowed .ensures)
 
 pub bits-of-spec : {M : Type 1} → statement M
 bits-of-spec =

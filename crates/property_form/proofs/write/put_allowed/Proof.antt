@@ -1,4 +1,4 @@
--- `property_form::write::put_allowed` meets its contract. The loop's invariant: the first k bits are put. Assumes nothing.
+-- `property_form::write::put_allowed` meets its contract. The loop's invariant: the first k bits are put.
 use Prim.Native.Nat.{ℕ, _+_, _-_, _≤_}
 use mathlib.Core.Path.{_≡_, refl, sym, ap, ap₂, _∙_}
 use mathlib.Core.List.{List}

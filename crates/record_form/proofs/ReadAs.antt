@@ -1,0 +1,53 @@
+-- What a record stands for: the reader's case tells it, and so do the entries of a trace; what is refused has a number.
+use Prim.Native.Nat.{ℕ, zero, suc, _≤_}
+use mathlib.Core.Path.{_≡_, refl, sym, _∙_, ap}
+use mathlib.Core.List.{List}
+use native.Mathlib.Omega.{arith}
+use lib.ListN.{length}
+use Rattle.record_form.specs.declared.RecordRead.{RecordRead}
+use Rattle.record_form.specs.Record
+use Rattle.record_form.specs.Record.{RecordAnswer, numbers, case-by, taken, record-size, record-answer, IsRead}
+use Rattle.record_form.specs.Trace.{Entry, entry-call, kind-of, action-of, stamp-of}
+use Rattle.record_form.specs.ReadAs.{ReadAs, case-as, read-as}
+use Rattle.record_form.proofs.Reading.{is-taken, refusal-of}
+
+-- What the reader answered is what the record stands for; with the answer's case put in, each by `refl`.
+pub read-case : {s : List ℕ} {before : ℕ} {r : RecordRead} → IsRead s before r → read-as (record-answer s before) ≡ case-as r
+unfolding read-as
+read-case h = ap case-as (sym (h .answer))
+
+-- A record that is taken has all its bytes.
+pub read-whole : {s : List ℕ} {before : ℕ} {r : RecordRead} → IsRead s before r → numbers r .refusal ≡ 0 → record-size ≤ length s
+read-whole {s} {before} h e =
+    is-taken s before (sym (refusal-of s before) ∙ sym (ap (λ (a : RecordAnswer). a .refusal) (h .in-numbers)) ∙ e) .size
+
+-- ---- traces
+
+-- A record that is taken as an entry stands for the entry's call, and an end record for the end.
+pub entry-read : (e : Entry) → read-as (taken (kind-of e) (action-of e) (stamp-of e)) ≡ ReadAs.call (entry-call e)
+unfolding read-as case-by
+entry-read (Entry.input action stamp) = refl
+entry-read (Entry.output action stamp) = refl
+entry-read (Entry.gap stamp) = refl
+
+pub end-read : (action stamp : ℕ) → read-as (taken Record.end action stamp) ≡ ReadAs.end
+unfolding read-as case-by
+end-read action stamp = refl
+
+-- ---- refusals
+
+-- What stands for a refusal has its number, which is not 0.
+pub refused-read : (a : RecordAnswer) (n : ℕ) → a .refusal ≡ suc n → read-as a ≡ ReadAs.refused (suc n)
+unfolding read-as case-by
+refused-read a n e = rw e
+
+pub refused-given : (a : RecordAnswer) (n : ℕ) → read-as a ≡ ReadAs.refused n → (n ≡ 0 → ⊥) × (a .refusal ≡ n)
+unfolding read-as case-by
+refused-given a n e = go (a .refusal) (a .kind) e
+  where
+    go : (m k : ℕ) → case-as (case-by m k (a .action) (a .stamp)) ≡ ReadAs.refused n → (n ≡ 0 → ⊥) × (m ≡ n)
+    go zero zero q = let z : _≡_ {A = ℕ} 0 1 = cc q in absurd (omega arith)
+    go zero (suc zero) q = let z : _≡_ {A = ℕ} 0 1 = cc q in absurd (omega arith)
+    go zero (suc (suc zero)) q = let z : _≡_ {A = ℕ} 0 1 = cc q in absurd (omega arith)
+    go zero (suc (suc (suc k))) q = let z : _≡_ {A = ℕ} 0 1 = cc q in absurd (omega arith)
+    go (suc m) k q = let z : suc m ≡ n = cc q in ((λ y. omega arith), z)
