@@ -1,4 +1,6 @@
 // Reads a packed script of calls from standard input and prints what each call gives back (docs/CALLS.md).
+use script::arguments;
+use script::text;
 use session::Session;
 
 // What a turn leaves: the bytes of the script that are left, and the session.
@@ -8,10 +10,10 @@ struct After {
 }
 
 // One call, printed.
-fn turn(script: &[u8], s: Session) -> After {
+fn turn(left: &[u8], s: Session) -> After {
     let mut out = [0u8; 8192];
-    let r = console::call(script, s, &mut out);
-    io::write_all(1, console::printed(&out, r.printed));
+    let r = console::call(left, s, &mut out);
+    io::write_all(1, text::front(&out, r.printed));
     let after = r.session;
     After {
         left: r.left,
@@ -19,13 +21,13 @@ fn turn(script: &[u8], s: Session) -> After {
     }
 }
 
-// All calls of the script. Each takes a byte of it or more.
-fn run(script: &[u8]) {
-    let mut s = console::start();
-    let mut left = script.len();
-    let mut turns = script.len();
+// All calls of the script, from a session of zeros. Each takes a byte of it or more.
+fn run(calls: &[u8]) {
+    let mut s = script::session(&[]);
+    let mut left = calls.len();
+    let mut turns = calls.len();
     while 0 < turns {
-        let rest = console::last(script, left);
+        let rest = arguments::last(calls, left);
         if console::over(rest) {
             return;
         }
@@ -38,9 +40,9 @@ fn run(script: &[u8]) {
 }
 
 fn main() {
-    let mut script = [0u8; 524288];
-    let n = io::read_full(0, &mut script);
-    run(&script[..n]);
+    let mut calls = [0u8; 524288];
+    let n = io::read_full(0, &mut calls);
+    run(&calls[..n]);
     if n == 524288 {
         io::write_all(1, b"cut\n");
     }

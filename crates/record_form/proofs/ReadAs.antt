@@ -1,20 +1,24 @@
 -- What a record stands for: the reader's case tells it, and so do the entries of a trace; what is refused has a number.
-use Prim.Native.Nat.{ℕ, zero, suc, _≤_}
+use Prim.Native.Nat.{ℕ, zero, suc, _≤_, _<_}
 use mathlib.Core.Path.{_≡_, refl, sym, _∙_, ap}
 use mathlib.Core.List.{List}
 use native.Mathlib.Omega.{arith}
 use lib.ListN.{length}
 use Rattle.record_form.specs.declared.RecordRead.{RecordRead}
 use Rattle.record_form.specs.Record
-use Rattle.record_form.specs.Record.{RecordAnswer, numbers, case-by, taken, record-size, record-answer, IsRead}
+use Rattle.record_form.specs.Record.{RecordAnswer, numbers, case-by, taken, refused, record-size, record-answer, IsRead}
 use Rattle.record_form.specs.Trace.{Entry, entry-call, kind-of, action-of, stamp-of}
 use Rattle.record_form.specs.ReadAs.{ReadAs, case-as, read-as}
-use Rattle.record_form.proofs.Reading.{is-taken, refusal-of}
+use Rattle.record_form.proofs.Reading.{is-taken, refusal-of, short}
 
 -- What the reader answered is what the record stands for; with the answer's case put in, each by `refl`.
 pub read-case : {s : List ℕ} {before : ℕ} {r : RecordRead} → IsRead s before r → read-as (record-answer s before) ≡ case-as r
 unfolding read-as
 read-case h = ap case-as (sym (h .answer))
+
+-- the same where an arm of a `match` knows the case
+pub read-known : {s : List ℕ} {before : ℕ} {r x : RecordRead} → IsRead s before r → r ≡ x → read-as (record-answer s before) ≡ case-as x
+read-known h e = read-case h ∙ ap case-as e
 
 -- A record that is taken has all its bytes.
 pub read-whole : {s : List ℕ} {before : ℕ} {r : RecordRead} → IsRead s before r → numbers r .refusal ≡ 0 → record-size ≤ length s
@@ -40,6 +44,10 @@ end-read action stamp = refl
 pub refused-read : (a : RecordAnswer) (n : ℕ) → a .refusal ≡ suc n → read-as a ≡ ReadAs.refused (suc n)
 unfolding read-as case-by
 refused-read a n e = rw e
+
+-- Too few bytes are refusal 7.
+pub short-read : (s : List ℕ) (before : ℕ) → length s < 6 → read-as (record-answer s before) ≡ ReadAs.refused 7
+short-read s before h = ap read-as (short s before h) ∙ refused-read (refused 7) 6 refl
 
 pub refused-given : (a : RecordAnswer) (n : ℕ) → read-as a ≡ ReadAs.refused n → (n ≡ 0 → ⊥) × (a .refusal ≡ n)
 unfolding read-as case-by

@@ -19,14 +19,11 @@ ghost use Rattle.session.specs.Step.{answer-of};
 ghost use Rattle.session.specs.Lent.{in-arrays, tidied, Whole, Ready, Advanced, Taken};
 use crate::Answer;
 use held::Status;
+use limits::LAST_ACTION;
+use limits::LAST_STAMP;
+use limits::MOST_OPEN;
 use matcher::sets;
 use property::Property;
-
-const MOST_OPEN: usize = 64;
-
-const LAST_ACTION: u8 = 63;
-
-const LAST_STAMP: u64 = 1099511627775;
 
 // What a call on lent arrays gives back beside them.
 pub struct Told {

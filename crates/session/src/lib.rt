@@ -12,14 +12,11 @@ ghost use Rattle.session.specs.Lent;
 use cuts::Row;
 use held::Shared;
 use held::Status;
-use lent::Told;
+use limits::LAST_STAMP;
+use limits::MOST_OPEN;
 use matcher::sets;
 use matcher::sets::Cut;
 use property::Property;
-
-const MOST_OPEN: usize = 64;
-
-const LAST_STAMP: u64 = 1099511627775;
 
 pub struct Session {
     pub property: Property,
@@ -97,7 +94,7 @@ fn no_property() -> Property
 }
 
 // The record of arrays and numbers.
-fn made(
+pub fn made(
     p: Property,
     held: [u64; 64],
     acts: [u8; 64],

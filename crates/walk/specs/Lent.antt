@@ -35,7 +35,7 @@ pub record Turned (s : Session) (bytes : List ℕ) (did : Did) (after : Session)
   pub leaves : Leaves did s after bytes
   pub ready : Ready after
 
-pub record IsRun (budget : ℕ) (s : Session) (bytes : List ℕ) (taken : ℕ) (stop : Stop) (read : ℕ) (after : Session) : Type 0 where
+pub record HasGone (budget : ℕ) (s : Session) (bytes : List ℕ) (taken : ℕ) (stop : Stop) (read : ℕ) (after : Session) : Type 0 where
   pub walked : walk-on budget s bytes ≡ record { taken = taken; stop = stop; read = read; session = after }
   pub within : read ≤ length bytes
   pub ready : Ready after

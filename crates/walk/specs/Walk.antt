@@ -1,15 +1,14 @@
 -- Document 01, "Walk".
 use Prim.Native.Nat.{ℕ, zero, suc, _+_}
-use mathlib.Core.Bool.{Bool, true, false, cond}
-use mathlib.Core.List.{List, [], _∷_}
+use mathlib.Core.Bool.{cond}
+use mathlib.Core.List.{List}
 use lib.ListN.{drop}
 use lib.Dec.{ltb}
-use Rattle.meaning.specs.Words.{Action}
 use Rattle.meaning.specs.Calls.{Call}
 use Rattle.record_form.specs.Record.{record-answer, record-size}
-use Rattle.record_form.specs.Record
+use Rattle.record_form.specs.ReadAs.{ReadAs, read-as}
 use Rattle.session.specs.declared.Session.{Session}
-use Rattle.session.specs.Record.{out-of-range}
+use Rattle.session.specs.Record.{latest-of, out-of-range}
 use Rattle.session.specs.Step.{stepped-of}
 use Rattle.walk.specs.declared.Stop.{Stop}
 use Rattle.walk.specs.declared.Stop.the-variants.{Budget, End, Refused}
@@ -41,22 +40,15 @@ one-call s c (suc n) = One.refused (suc n)
 abbrev pub try-call : Session → Call → One
 try-call s c = one-call s c (stepped-of s c .answer .refusal)
 
--- By kind: input, output, gap, end.
-unfoldable pub one-kind : Session → ℕ → ℕ → ℕ → One
-one-kind s zero action stamp = try-call s (Call.line (record { action = Action.input action; stamp = stamp }))
-one-kind s (suc zero) action stamp = try-call s (Call.line (record { action = Action.output action; stamp = stamp }))
-one-kind s (suc (suc zero)) action stamp = try-call s (Call.mark stamp)
-one-kind s (suc (suc (suc more))) action stamp = One.ended
-
-unfoldable pub one-read : Session → ℕ → ℕ → ℕ → ℕ → One
-one-read s zero kind action stamp = one-kind s kind action stamp
-one-read s (suc n) kind action stamp = One.refused (suc n)
+-- By what the record stands for.
+unfoldable pub one-read : Session → ReadAs → One
+one-read s (ReadAs.call c) = try-call s c
+one-read s ReadAs.end = One.ended
+one-read s (ReadAs.refused n) = One.refused n
 
 -- The record at the front of the bytes: "A walk adds each field to the session's latest stamp".
 abbrev pub one-of : Session → List ℕ → One
-one-of s bytes =
-    let a : Record.Answer = record-answer bytes (s .latest) in
-    one-read s (a .refusal) (a .kind) (a .action) (a .stamp)
+one-of s bytes = one-read s (read-as (record-answer bytes (latest-of s)))
 
 abbrev pub stopped : Session → Stop → ℕ → Walked
 stopped s stop read = record { taken = 0; stop = stop; read = read; session = s }
@@ -81,9 +73,22 @@ walk-on (suc budget) s bytes = walked-by (one-of s bytes) s (λ after. walk-on b
 abbrev pub budget-of : ℕ → ℕ
 budget-of budget = cond (ltb 4_096 budget) 4_096 budget
 
+-- "The answer has the number taken .., how it stopped, the refusal if any, and the rest", in numbers, with the session: the
+-- rest is given by the number of bytes read.
+pub record Walking : Type 0 where
+  pub taken : ℕ
+  pub stop : ℕ
+  pub refusal : ℕ
+  pub read : ℕ
+  pub session : Session
+
+abbrev pub in-numbers : Walked → Walking
+in-numbers w =
+    record { taken = w .taken; stop = stop-number (w .stop); refusal = stop-refusal (w .stop); read = w .read; session = w .session }
+
 -- A record that refusal 10 names is refused, whatever the budget.
-unfoldable pub walk-of : Session → List ℕ → ℕ → Walked
-walk-of s bytes budget = cond (out-of-range s) (stopped s (Refused 10) 0) (walk-on (budget-of budget) s bytes)
+unfoldable pub walk-of : Session → List ℕ → ℕ → Walking
+walk-of s bytes budget = in-numbers (cond (out-of-range s) (stopped s (Refused 10) 0) (walk-on (budget-of budget) s bytes))
 
 -- "the rest, which starts at the record that was not taken, or behind the end": behind the bytes that the walk read. More than
 -- there are, which no walk of these bytes reads, leaves the whole slice.

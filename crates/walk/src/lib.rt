@@ -5,17 +5,18 @@ ghost use lib.ListN.{length};
 ghost use Rattle.fields.specs.Rest.{Rest};
 ghost use Rattle.matcher.specs.Table.{IsTable};
 ghost use Rattle.session.specs.Lent.{in-arrays, Ready};
-ghost use Rattle.walk.specs.Walk.{walk-of, budget-of, rest-start};
-ghost use Rattle.walk.specs.Lent.{did-of, Turned, IsRun};
+ghost use Rattle.walk.specs.Walk.{in-numbers, walk-of, budget-of, rest-start};
+ghost use Rattle.walk.specs.Lent.{did-of, Turned, HasGone};
+use held::Status;
 use property::Property;
+use record_form::RECORD_SIZE;
 use record_form::RecordRead;
 use session::Session;
-use session::Small;
+use session::lent;
+use session::lent::Told;
 
 // "a budget of 0 to 4,096 records (more counts as 4,096)"
 const MOST_RECORDS: usize = 4096;
-
-const RECORD_SIZE: usize = 6;
 
 // How a walk stopped.
 pub enum Stop {
@@ -47,19 +48,15 @@ pub enum Did {
 // One record on lent arrays: what it did, and the numbers beside the arrays after it.
 pub struct Turn {
     pub did: Did,
-    pub count: usize,
-    pub latest: u64,
-    pub blind: bool,
+    pub status: Status,
 }
 
 // A walk on lent arrays: what it did, and the numbers beside the arrays after it.
-pub struct Run {
+pub struct Went {
     pub taken: usize,
     pub stop: Stop,
     pub read: usize,
-    pub count: usize,
-    pub latest: u64,
-    pub blind: bool,
+    pub status: Status,
 }
 
 // A call was taken, or refused with its number.
@@ -72,15 +69,14 @@ fn outcome(refusal: u64) -> Did
     Did::Not(refusal)
 }
 
-fn after(r: Small) -> Turn
-    ensures { λ t. ⌜ t ≡ record { did = did-of (r .answer .refusal); count = r .count; latest = r .latest; blind = r .blind } ⌝ }
+fn after(r: Told) -> Turn
+    ensures { λ t. ⌜ t ≡ record { did = did-of (r .answer .refusal); status = r .status } ⌝ }
 {
     let answer = r.answer;
+    let status = r.status;
     Turn {
         did: outcome(answer.refusal),
-        count: r.count,
-        latest: r.latest,
-        blind: r.blind,
+        status: status,
     }
 }
 
@@ -91,71 +87,29 @@ fn one_record(
     held: &mut [u64; 64],
     acts: &mut [u8; 64],
     masks: &mut [u64; 65],
-    broken: &mut [bool; 65],
-    count: usize,
-    latest: u64,
-    blind: bool,
+    marks: &mut [u64; 65],
+    status: Status,
     bytes: &[u8],
 ) -> Turn
-    requires { ⌜ Ready (in-arrays p (now held) (now acts) (now masks) (now broken) count latest blind) × IsTable p (now table) ⌝ }
-    ensures { λ r. ⌜ Turned (in-arrays p (now (held .entry)) (now (acts .entry)) (now (masks .entry)) (now (broken .entry)) count latest blind) (now (bytes .entry)) (r .did) (in-arrays p (now (held .exit)) (now (acts .exit)) (now (masks .exit)) (now (broken .exit)) (r .count) (r .latest) (r .blind)) ⌝ }
+    requires { ⌜ Ready (in-arrays p (now held) (now acts) (now masks) (now marks) status) × IsTable p (now table) ⌝ }
+    ensures { λ r. ⌜ Turned (in-arrays p (now (held .entry)) (now (acts .entry)) (now (masks .entry)) (now (marks .entry)) status) (now (bytes .entry)) (r .did) (in-arrays p (now (held .exit)) (now (acts .exit)) (now (masks .exit)) (now (marks .exit)) (r .status)) ⌝ }
 {
-    let record = record_form::read_record(bytes, latest);
+    let record = record_form::read_record(bytes, status.latest);
     match record {
         RecordRead::Input(action, stamp) => {
-            after(session::advance_line(
-                p,
-                table,
-                held,
-                acts,
-                masks,
-                broken,
-                count,
-                latest,
-                blind,
-                false,
-                action,
-                stamp,
-            ))
+            after(lent::line(p, table, held, acts, masks, marks, status, false, action, stamp))
         }
         RecordRead::Output(action, stamp) => {
-            after(session::advance_line(
-                p,
-                table,
-                held,
-                acts,
-                masks,
-                broken,
-                count,
-                latest,
-                blind,
-                true,
-                action,
-                stamp,
-            ))
+            after(lent::line(p, table, held, acts, masks, marks, status, true, action, stamp))
         }
-        RecordRead::Gap(stamp) => after(session::advance_mark(
-            p,
-            held,
-            acts,
-            masks,
-            broken,
-            count,
-            latest,
-            blind,
-            stamp,
-        )),
+        RecordRead::Gap(stamp) => after(lent::mark(p, held, acts, masks, marks, status, stamp)),
         RecordRead::End(_) => Turn {
             did: Did::Ended,
-            count: count,
-            latest: latest,
-            blind: blind,
+            status: status,
         },
         RecordRead::Refused(number) => Turn {
             did: Did::Not(number),
-            count: count,
-            latest: latest,
-            blind: blind,
+            status: status,
         },
     }
 }
@@ -167,61 +121,50 @@ pub fn records(
     held: &mut [u64; 64],
     acts: &mut [u8; 64],
     masks: &mut [u64; 65],
-    broken: &mut [bool; 65],
-    count: usize,
-    latest: u64,
-    blind: bool,
+    marks: &mut [u64; 65],
+    status: Status,
     trace: &[u8],
     budget: usize,
-) -> Run
-    requires { ⌜ Ready (in-arrays p (now held) (now acts) (now masks) (now broken) count latest blind) × IsTable p (now table) ⌝ }
-    ensures { λ r. ⌜ IsRun budget (in-arrays p (now (held .entry)) (now (acts .entry)) (now (masks .entry)) (now (broken .entry)) count latest blind) (now (trace .entry)) (r .taken) (r .stop) (r .read) (in-arrays p (now (held .exit)) (now (acts .exit)) (now (masks .exit)) (now (broken .exit)) (r .count) (r .latest) (r .blind)) ⌝ }
+) -> Went
+    requires { ⌜ Ready (in-arrays p (now held) (now acts) (now masks) (now marks) status) × IsTable p (now table) ⌝ }
+    ensures { λ r. ⌜ HasGone budget (in-arrays p (now (held .entry)) (now (acts .entry)) (now (masks .entry)) (now (marks .entry)) status) (now (trace .entry)) (r .taken) (r .stop) (r .read) (in-arrays p (now (held .exit)) (now (acts .exit)) (now (masks .exit)) (now (marks .exit)) (r .status)) ⌝ }
 {
     let mut taken = 0;
     let mut at = 0;
-    let mut c = count;
-    let mut l = latest;
-    let mut b = blind;
+    let mut here = status;
     while taken < budget {
-        let t = one_record(p, table, held, acts, masks, broken, c, l, b, &trace[at..]);
+        let t = one_record(p, table, held, acts, masks, marks, here, &trace[at..]);
         let did = t.did;
+        let next = t.status;
         match did {
             Did::Took => {
-                c = t.count;
-                l = t.latest;
-                b = t.blind;
+                here = next;
                 at += RECORD_SIZE;
                 taken += 1;
             }
             Did::Ended => {
-                return Run {
+                return Went {
                     taken: taken,
                     stop: Stop::End,
                     read: at + RECORD_SIZE,
-                    count: t.count,
-                    latest: t.latest,
-                    blind: t.blind,
+                    status: next,
                 };
             }
             Did::Not(number) => {
-                return Run {
+                return Went {
                     taken: taken,
                     stop: Stop::Refused(number),
                     read: at,
-                    count: t.count,
-                    latest: t.latest,
-                    blind: t.blind,
+                    status: next,
                 };
             }
         }
     }
-    Run {
+    Went {
         taken: taken,
         stop: Stop::Budget,
         read: at,
-        count: c,
-        latest: l,
-        blind: b,
+        status: here,
     }
 }
 
@@ -236,7 +179,7 @@ fn limited(budget: usize) -> usize
 
 // Takes records from the front of `trace`, as many as `budget` says or 4,096.
 pub fn walk(s: Session, trace: &[u8], budget: usize) -> Walked
-    ensures { λ r. ⌜ r ≡ walk-of s (now (trace .entry)) budget ⌝ }
+    ensures { λ r. ⌜ in-numbers r ≡ walk-of s (now (trace .entry)) budget ⌝ }
 {
     if session::unfit(s) {
         return Walked {
@@ -247,40 +190,40 @@ pub fn walk(s: Session, trace: &[u8], budget: usize) -> Walked
         };
     }
     let p = s.property;
+    let shared = s.shared;
+    let row = s.row;
     let table = matcher::table(p);
-    let mut held = s.held;
-    let mut acts = s.acts;
-    let mut masks = s.masks;
-    let mut broken = s.broken;
+    let mut held = shared.held;
+    let mut acts = shared.acts;
+    let mut masks = row.masks;
+    let mut marks = row.marks;
+    let status = shared.status;
+    lent::tidy(p, &mut held, &mut acts, &mut masks, &mut marks, status);
     let r = records(
         p,
         &table,
         &mut held,
         &mut acts,
         &mut masks,
-        &mut broken,
-        s.count,
-        s.latest,
-        s.blind,
+        &mut marks,
+        status,
         trace,
         limited(budget),
     );
-    let session = Session {
-        property: p,
-        count: r.count,
-        held: held,
-        acts: acts,
-        masks: masks,
-        broken: broken,
-        latest: r.latest,
-        blind: r.blind,
-    };
     let stop = r.stop;
+    if r.taken == 0 {
+        return Walked {
+            taken: 0,
+            stop: stop,
+            read: r.read,
+            session: s,
+        };
+    }
     Walked {
         taken: r.taken,
         stop: stop,
         read: r.read,
-        session: session,
+        session: session::made(p, held, acts, masks, marks, r.status),
     }
 }
 

@@ -1,16 +1,19 @@
--- `calls::run` is safe and ends. The measure is the number of turns that are left. Assumes nothing.
+-- `calls::run` is safe and ends. The measure is the number of turns that are left.
 use borrow.Author.Needs.{needs}
 use Rattle.calls.proofs.run.Statement.{statement}
 use Rattle.calls.proofs.run.Tie as tie
 
 abbrev Inv-loop : tie.InvT-loop
-Inv-loop script s₀ left₀ turns₀ s left turns = Unit {0}
+Inv-loop calls s₀ left₀ turns₀ s left turns = Unit {0}
 
 abbrev μ-loop : tie.MeasureT-loop
-μ-loop script s₀ left₀ turns₀ s left turns = turns
+μ-loop calls s₀ left₀ turns₀ s left turns = turns
 
-start-requires : tie.Need-start-requires Inv-loop μ-loop
-start-requires c κs = search needs
+slice-aggregate-session : tie.Need-slice-aggregate-session Inv-loop μ-loop
+slice-aggregate-session c = search needs
+
+session-requires : tie.Need-session-requires Inv-loop μ-loop
+session-requires c κs = search needs
 
 loop-holds : tie.Need-loop-holds Inv-loop μ-loop
 loop-holds c = search needs
@@ -45,7 +48,8 @@ run-spec =
     (tie.spec
     Inv-loop
     μ-loop
-    start-requires
+    slice-aggregate-session
+    session-requires
     loop-holds
     last-requires
     over-requires

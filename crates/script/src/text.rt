@@ -1,0 +1,145 @@
+// What a call prints, put on a lent page from a place on. Each function gives the place behind what it put; what does not fit is left out.
+ghost use Prim.Native.Nat.{_≤_};
+ghost use lib.ListN.{length};
+
+pub type Page = [u8; 8192];
+
+fn put(out: &mut Page, at: usize, b: u8) -> usize {
+    if at < out.len() {
+        out[at] = b;
+        return at + 1;
+    }
+    at
+}
+
+fn put_text(out: &mut Page, at: usize, text: &[u8]) -> usize {
+    let mut n = at;
+    let mut i = 0;
+    while i < text.len() {
+        n = put(out, n, text[i]);
+        i += 1;
+    }
+    n
+}
+
+fn digit(d: u64) -> u8 {
+    if d < 10 {
+        return 48 + d as u8;
+    }
+    if d < 16 {
+        return 87 + d as u8;
+    }
+    63
+}
+
+// The highest power of ten that is not above v; 1 for 0.
+fn top(v: u64) -> u64 {
+    let mut d = 1u64;
+    while d <= v / 10 {
+        d *= 10;
+    }
+    d
+}
+
+// A number in decimal, and a space before it.
+fn put_number(out: &mut Page, at: usize, v: u64) -> usize {
+    let mut n = put(out, at, b' ');
+    let mut d = top(v);
+    while 0 < d {
+        n = put(out, n, digit(v / d % 10));
+        d /= 10;
+    }
+    n
+}
+
+// A name and numbers.
+pub fn put_numbers(out: &mut Page, at: usize, name: &[u8], numbers: &[u64]) -> usize {
+    let mut n = put_text(out, at, name);
+    let mut i = 0;
+    while i < numbers.len() {
+        n = put_number(out, n, numbers[i]);
+        i += 1;
+    }
+    n
+}
+
+// The same, and an end of the line.
+pub fn put_line(out: &mut Page, at: usize, name: &[u8], numbers: &[u64]) -> usize {
+    let n = put_numbers(out, at, name, numbers);
+    put(out, n, b'\n')
+}
+
+// The number of places up to the last that is not 0.
+fn used(a: &[u64]) -> usize
+    ensures { λ r. ⌜ r ≤ length (now (a .entry)) ⌝ }
+{
+    let mut n = a.len();
+    while 0 < n {
+        let i = n - 1;
+        if a[i] != 0 {
+            return n;
+        }
+        n = i;
+    }
+    0
+}
+
+// A name, and the places up to the last that is not 0.
+pub fn put_used(out: &mut Page, at: usize, name: &[u8], a: &[u64]) -> usize {
+    let n = used(a);
+    put_line(out, at, name, &a[0..n])
+}
+
+pub fn wide_flag(b: bool) -> u64 {
+    if b { 1 } else { 0 }
+}
+
+// Flags, and bytes, as words, with zeros behind them.
+pub fn wide_flags(a: &[bool]) -> [u64; 65] {
+    let mut w = [0u64; 65];
+    let mut i = 0;
+    while i < 65 {
+        if i < a.len() {
+            w[i] = wide_flag(a[i]);
+        }
+        i += 1;
+    }
+    w
+}
+
+pub fn wide_bytes(a: &[u8]) -> [u64; 65] {
+    let mut w = [0u64; 65];
+    let mut i = 0;
+    while i < 65 {
+        if i < a.len() {
+            w[i] = fields::wide(a[i]);
+        }
+        i += 1;
+    }
+    w
+}
+
+// Bytes in hex, behind their number and a colon, and an end of the line.
+pub fn put_hex(out: &mut Page, at: usize, bytes: &[u8]) -> usize {
+    let counted = put_number(out, at, bytes.len() as u64);
+    let mut n = put(out, counted, b':');
+    let mut i = 0;
+    while i < bytes.len() {
+        let b = fields::wide(bytes[i]);
+        n = put(out, n, digit(b / 16));
+        n = put(out, n, digit(b % 16));
+        i += 1;
+    }
+    put(out, n, b'\n')
+}
+
+// A rest: its length, and its first 16 bytes in hex, and an end of the line.
+pub fn put_rest(out: &mut Page, at: usize, rest: &[u8]) -> usize {
+    let counted = put_number(out, at, rest.len() as u64);
+    put_hex(out, counted, crate::arguments::front(rest, 16))
+}
+
+// The first n bytes of a page.
+pub fn front(page: &Page, n: usize) -> &[u8] {
+    crate::arguments::front(page, n)
+}
