@@ -2,14 +2,17 @@
 pub mod arguments;
 pub mod text;
 
+use cuts::Row;
+use held::Shared;
+use held::Status;
 use property::Property;
 use session::Session;
 use text::Page;
 
-// A property takes 96 bytes, a session 1,274.
+// A property takes 96 bytes, a session 1,729.
 pub const PROPERTY: usize = 96;
 
-pub const SESSION: usize = 1274;
+pub const SESSION: usize = 1729;
 
 // n, 32 directions, 32 numbers, allowed, LB, UB.
 pub fn property(s: &[u8]) -> Property {
@@ -27,7 +30,7 @@ pub fn property(s: &[u8]) -> Property {
     }
 }
 
-// A property, count, 64 held stamps, 64 actions, 65 masks, 65 broken, latest, blind.
+// A property, count, 64 held stamps, 64 actions, 65 masks, 65 marks, latest, blind.
 pub fn session(s: &[u8]) -> Session {
     let p = property(s);
     let mut held = [0u64; 64];
@@ -36,18 +39,14 @@ pub fn session(s: &[u8]) -> Session {
     arguments::bytes(arguments::behind(s, 616), &mut acts);
     let mut masks = [0u64; 65];
     arguments::words(arguments::behind(s, 680), &mut masks);
-    let mut broken = [false; 65];
-    arguments::flags(arguments::behind(s, 1200), &mut broken);
-    Session {
-        property: p,
+    let mut marks = [0u64; 65];
+    arguments::words(arguments::behind(s, 1200), &mut marks);
+    let status = Status {
         count: arguments::size_at(s, 96),
-        held: held,
-        acts: acts,
-        masks: masks,
-        broken: broken,
-        latest: arguments::word_at(s, 1265),
-        blind: arguments::flag(s, 1273),
-    }
+        latest: arguments::word_at(s, 1720),
+        blind: arguments::flag(s, 1728),
+    };
+    session::made(p, held, acts, masks, marks, status)
 }
 
 // Three lines.
@@ -63,29 +62,31 @@ pub fn put_property(out: &mut Page, at: usize, p: Property) -> usize {
 }
 
 // What all properties share: the numbers, the held stamps and their actions, a line each.
-fn put_shared(out: &mut Page, at: usize, s: Session) -> usize {
-    let numbers = [s.count as u64, s.latest, text::wide_flag(s.blind)];
+fn put_shared(out: &mut Page, at: usize, shared: Shared) -> usize {
+    let status = shared.status;
+    let numbers = [status.count as u64, status.latest, text::wide_flag(status.blind)];
     let first = text::put_line(out, at, b"session", &numbers);
-    let held = s.held;
+    let held = shared.held;
     let second = text::put_used(out, first, b"held", &held);
-    let acts = s.acts;
+    let acts = shared.acts;
     let actions = text::wide_bytes(&acts);
     text::put_used(out, second, b"acts", &actions)
 }
 
 // What belongs to one property: its two words of each cut, a line each.
-fn put_row(out: &mut Page, at: usize, s: Session) -> usize {
-    let masks = s.masks;
+fn put_row(out: &mut Page, at: usize, row: Row) -> usize {
+    let masks = row.masks;
     let first = text::put_used(out, at, b"masks", &masks);
-    let broken = s.broken;
-    let flags = text::wide_flags(&broken);
-    text::put_used(out, first, b"broken", &flags)
+    let marks = row.marks;
+    text::put_used(out, first, b"marks", &marks)
 }
 
 // Eight lines.
 pub fn put_session(out: &mut Page, at: usize, s: Session) -> usize {
     let p = s.property;
+    let shared = s.shared;
+    let row = s.row;
     let third = put_property(out, at, p);
-    let sixth = put_shared(out, third, s);
-    put_row(out, sixth, s)
+    let sixth = put_shared(out, third, shared);
+    put_row(out, sixth, row)
 }

@@ -15,8 +15,8 @@ use Rattle.walk.specs.declared.Stop.the-variants.{Budget, End, Refused}
 use Rattle.walk.specs.declared.Did.{Did}
 use Rattle.walk.specs.declared.Did.the-variants.{Took, Ended, Not}
 use Rattle.walk.specs.declared.Walked.{Walked}
-use Rattle.walk.specs.Walk.{One, one-of, stopped, one-more, walked-by, walk-on, budget-of, walk-of}
-use Rattle.walk.specs.Lent.{did-by, Turned, IsRun}
+use Rattle.walk.specs.Walk.{One, one-of, stopped, one-more, walked-by, walk-on, in-numbers, budget-of, walk-of}
+use Rattle.walk.specs.Lent.{did-by, Turned, HasGone}
 
 -- so many records and bytes before a walk
 abbrev pub ahead : ℕ → ℕ → Walked → Walked
@@ -90,7 +90,7 @@ module _ {budget taken at : ℕ} {start now : Session} {bytes : List ℕ} (g : G
       let t : taken + 0 ≡ taken = omega arith in
       λ i. record { taken = t i; stop = stop; read = at + read; session = sym e i }
 
-  pub going-ended : (after : Session) → taken < budget → Turned now (drop at bytes) Ended after → IsRun budget start bytes taken End (at + record-size) after
+  pub going-ended : (after : Session) → taken < budget → Turned now (drop at bytes) Ended after → HasGone budget start bytes taken End (at + record-size) after
   going-ended after left h =
       record {
         walked = next-record left h ∙ ap (ahead taken at) shown ∙ stopped-ahead End record-size after (h .leaves .0);
@@ -101,7 +101,7 @@ module _ {budget taken at : ℕ} {start now : Session} {bytes : List ℕ} (g : G
       shown : did-by Ended now after (λ s. walk-on (budget - (taken + 1)) s (drop record-size (drop at bytes))) ≡ stopped now End record-size
       shown = unfold did-by in refl
 
-  pub going-refused : (n : ℕ) (after : Session) → taken < budget → Turned now (drop at bytes) (Not n) after → IsRun budget start bytes taken (Refused n) at after
+  pub going-refused : (n : ℕ) (after : Session) → taken < budget → Turned now (drop at bytes) (Not n) after → HasGone budget start bytes taken (Refused n) at after
   going-refused n after left h =
       record {
         walked = next-record left h ∙ ap (ahead taken at) shown ∙ stopped-ahead (Refused n) 0 after (h .leaves) ∙ plain;
@@ -115,7 +115,7 @@ module _ {budget taken at : ℕ} {start now : Session} {bytes : List ℕ} (g : G
       plain : _≡_ {A = Walked} (record { taken = taken; stop = Refused n; read = at + 0; session = after }) (record { taken = taken; stop = Refused n; read = at; session = after })
       plain = let e : at + 0 ≡ at = omega arith in λ i. record { taken = taken; stop = Refused n; read = e i; session = after }
 
-  pub going-done : budget ≤ taken → IsRun budget start bytes taken Budget at now
+  pub going-done : budget ≤ taken → HasGone budget start bytes taken Budget at now
   going-done h =
       let e : budget - taken ≡ 0 = omega arith in
       record {
@@ -138,11 +138,13 @@ turned-part {s} {after} {did} bytes at e h =
     subst (λ (d : Did). Turned s (drop at bytes) d after) e
     (subst (λ (l : List ℕ). Turned s l did after) (take-all (length bytes - at) (drop at bytes) (omega (arith, length-drop at bytes))) h)
 
--- refusal 10 first, whatever the budget
-pub walk-refused : (s : Session) (bytes : List ℕ) (budget : ℕ) → out-of-range s ≡ true → walk-of s bytes budget ≡ stopped s (Refused 10) 0
-unfolding walk-of
-walk-refused s bytes budget e = ap (λ (t : Bool). cond t (stopped s (Refused 10) 0) (walk-on (budget-of budget) s bytes)) e
+-- ---- the public walk
 
-pub walk-taken : (s : Session) (bytes : List ℕ) (budget : ℕ) → out-of-range s ≡ false → walk-of s bytes budget ≡ walk-on (budget-of budget) s bytes
+-- refusal 10 first, whatever the budget
+pub walk-refused : (s : Session) (bytes : List ℕ) (budget : ℕ) → out-of-range s ≡ true → walk-of s bytes budget ≡ in-numbers (stopped s (Refused 10) 0)
 unfolding walk-of
-walk-taken s bytes budget e = ap (λ (t : Bool). cond t (stopped s (Refused 10) 0) (walk-on (budget-of budget) s bytes)) e
+walk-refused s bytes budget e = ap (λ (t : Bool). in-numbers (cond t (stopped s (Refused 10) 0) (walk-on (budget-of budget) s bytes))) e
+
+pub walk-taken : (s : Session) (bytes : List ℕ) (budget : ℕ) → out-of-range s ≡ false → walk-of s bytes budget ≡ in-numbers (walk-on (budget-of budget) s bytes)
+unfolding walk-of
+walk-taken s bytes budget e = ap (λ (t : Bool). in-numbers (cond t (stopped s (Refused 10) 0) (walk-on (budget-of budget) s bytes))) e

@@ -8,15 +8,16 @@ use lib.ListN.{length, drop, length-drop}
 use lib.Dec.{T, leb, leb→le, nleb→lt}
 use lib.Seq.{drop-drop}
 use Rattle.meaning.specs.Calls.{Call}
-use Rattle.record_form.specs.Record.{record-size}
-use Rattle.record_form.specs.Record
-use Rattle.record_form.proofs.Reading.{short}
+use Rattle.record_form.specs.Record.{record-size, record-answer}
+use Rattle.record_form.specs.ReadAs.{ReadAs, read-as}
+use Rattle.record_form.proofs.ReadAs.{short-read}
 use Rattle.session.specs.declared.Session.{Session}
+use Rattle.session.specs.Record.{latest-of}
 use Rattle.session.specs.Step.{stepped-of, stepped-through}
 use Rattle.walk.specs.declared.Stop.{Stop}
 use Rattle.walk.specs.declared.Stop.the-variants.{Budget, End, Refused}
 use Rattle.walk.specs.declared.Walked.{Walked}
-use Rattle.walk.specs.Walk.{One, one-call, try-call, one-kind, one-read, one-of, stopped, one-more, walked-by, walk-on}
+use Rattle.walk.specs.Walk.{One, one-call, one-read, one-of, stopped, one-more, walked-by, walk-on}
 
 -- ---- single steps
 
@@ -46,20 +47,13 @@ unfolding one-call
 call-step s c zero e = record { taken = e; steps = refl }
 call-step s c (suc n) e = tt
 
-kind-step : (s : Session) (kind action stamp : ℕ) → StepOf s (one-kind s kind action stamp)
-unfolding one-kind
-kind-step s zero action stamp = call-step s _ _ refl
-kind-step s (suc zero) action stamp = call-step s _ _ refl
-kind-step s (suc (suc zero)) action stamp = call-step s _ _ refl
-kind-step s (suc (suc (suc k))) action stamp = tt
-
-read-step : (s : Session) (n kind action stamp : ℕ) → StepOf s (one-read s n kind action stamp)
-unfolding one-read
-read-step s zero kind action stamp = kind-step s kind action stamp
-read-step s (suc n) kind action stamp = tt
-
 pub one-step : (s : Session) (bytes : List ℕ) → StepOf s (one-of s bytes)
-one-step s bytes = read-step s _ _ _ _
+one-step s bytes = go (read-as (record-answer bytes (latest-of s)))
+  where
+    go : (x : ReadAs) → StepOf s (one-read s x)
+    go (ReadAs.call c) = unfold one-read in (call-step s c _ refl)
+    go ReadAs.end = unfold one-read in tt
+    go (ReadAs.refused n) = unfold one-read in tt
 
 -- The number taken is the number of single steps, at most the budget, and the session is theirs.
 pub record Exactly (budget : ℕ) (s : Session) (w : Walked) : Type 0 where
@@ -154,8 +148,7 @@ two-walks (suc b₁) b₂ s bytes g =
 -- fewer bytes than a record are refused
 short-refused : (s : Session) (bytes : List ℕ) → length bytes < record-size → one-of s bytes ≡ One.refused 7
 unfolding one-read
-short-refused s bytes h =
-    ap (λ (a : Record.Answer). one-read s (a .refusal) (a .kind) (a .action) (a .stamp)) (short bytes (s .latest) h)
+short-refused s bytes h = ap (one-read s) (short-read bytes (latest-of s) h)
 
 pub data NotBudget : Stop → Type 0 where
   at-end : NotBudget End

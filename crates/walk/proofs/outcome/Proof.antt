@@ -1,14 +1,11 @@
+-- `walk::outcome` meets its contract.
 use Rattle.walk.proofs.Dids.{did-zero, did-more}
 use Rattle.walk.proofs.outcome.Statement.{statement}
 use Rattle.walk.proofs.outcome.Tie as tie
-use Rattle.walk.proofs.outcome.Reads as reads
-use Rattle.walk.proofs.outcome.Lts as lts
 
--- src/lib.rt:70:9
 returns : tie.Need-returns
 returns c = did-zero _ (c .if1 .taken)
 
--- src/lib.rt:66:1
 returns-2 : tie.Need-returns-2
 returns-2 c = did-more _ (c .if1 .left)
 

@@ -1,3 +1,4 @@
+-- `walk::records` meets its contract. The loop: what has been taken, and what is left of the walk.
 use Prim.Native.Nat.{_-_}
 use native.Mathlib.Omega.{arith}
 use borrow.Author.Needs.{needs}
@@ -5,98 +6,72 @@ use Rattle.session.specs.Lent.{in-arrays}
 use Rattle.walk.proofs.Going.{Going, going-start, going-took, going-ended, going-refused, going-done, turned-part}
 use Rattle.walk.proofs.records.Statement.{statement}
 use Rattle.walk.proofs.records.Tie as tie
-use Rattle.walk.proofs.records.Reads as reads
-use Rattle.walk.proofs.records.Lts as lts
-use Rattle.walk.proofs.one_record.Reads as one-record-reads
 
 abbrev Inv-loop : tie.InvT-loop
-Inv-loop p table held₀ acts₀ masks₀ broken₀ count latest blind trace budget taken₀ at₀ c₀ l₀ b₀ held acts masks broken taken at c l b =
-    Going budget taken at (in-arrays p held₀ acts₀ masks₀ broken₀ count latest blind) (in-arrays p held acts masks broken c l b) trace
+Inv-loop p table held₀ acts₀ masks₀ marks₀ trace budget taken₀ at₀ here₀ held acts masks marks taken at here =
+    Going budget taken at (in-arrays p held₀ acts₀ masks₀ marks₀ here₀) (in-arrays p held acts masks marks here) trace
 
 abbrev μ-loop : tie.MeasureT-loop
-μ-loop p table held₀ acts₀ masks₀ broken₀ count latest blind trace budget taken₀ at₀ c₀ l₀ b₀ held acts masks broken taken at c l b =
+μ-loop p table held₀ acts₀ masks₀ marks₀ trace budget taken₀ at₀ here₀ held acts masks marks taken at here =
     budget - taken
 
--- src/lib.rt:149:5
 loop-holds : tie.Need-loop-holds Inv-loop μ-loop
 loop-holds c = going-start _ _ _ (c .before .pre .0)
 
--- src/lib.rt:150:74
 sub-one-record : tie.Need-sub-one-record Inv-loop μ-loop
 sub-one-record c = omega (arith, c .before .before .before .before .before .loop .inv .inside)
 
--- src/lib.rt:150:74
 part-one-record-start : tie.Need-part-one-record-start Inv-loop μ-loop
 part-one-record-start c = omega (arith, c .before .before .before .before .before .loop .inv .inside)
 
--- src/lib.rt:150:74
 part-one-record-end : tie.Need-part-one-record-end Inv-loop μ-loop
 part-one-record-end c = search needs
 
--- src/lib.rt:150:13
 one-record-requires : tie.Need-one-record-requires Inv-loop μ-loop
 one-record-requires c κs = (c .before .before .before .before .before .before .loop .inv .ready, c .before .before .before .before .before .before .before .before .pre .1)
 
--- src/lib.rt:154:17
 enum-told : tie.Need-enum-told Inv-loop μ-loop
 enum-told c = search needs
 
--- src/lib.rt:157:17
 add-at : tie.Need-add-at Inv-loop μ-loop
 add-at c =
-    let loop = c .before .before .before .before .before .before .before .before .before .loop in
-    let h =
-    going-took (loop .inv) _ (c .before .before .before .before .before .before .before .before .loop-test .taken)
-    (turned-part (c .before .before .before .before .before .before .before .before .before .before .before .args .trace .now) (loop .at) (c .enum-told .given .1) (c .before .before .one-record .ensures)) in
-    omega (arith, h .inside, c .before .before .before .before .before .before .before .before .before .before .before .good .1 .1 .1 .1 .1 .1 .1 .1 .1 .0)
+    let loop = c .before .before .before .before .before .before .before .before .before .before .loop in
+    let h = going-took (loop .inv) _ (c .before .before .before .before .before .before .before .before .before .loop-test .taken) (turned-part (c .before .before .before .before .before .before .before .before .before .before .before .before .args .trace .now) (loop .at) (c .enum-told .given .1) (c .before .before .before .one-record .ensures)) in
+    omega (arith, h .inside, c .before .before .before .before .before .before .before .before .before .before .before .before .good .1 .1 .1 .1 .1 .1 .1 .0)
 
--- src/lib.rt:158:17
 add-taken : tie.Need-add-taken Inv-loop μ-loop
 add-taken c = omega arith
 
--- src/lib.rt:149:5
 loop-less : tie.Need-loop-less Inv-loop μ-loop
 loop-less c = omega arith
 
--- src/lib.rt:149:5
 loop-again : tie.Need-loop-again Inv-loop μ-loop
 loop-again c =
-    let loop = c .before .before .before .before .before .before .before .before .before .loop in
-    going-took (loop .inv) _ (c .before .before .before .before .before .before .before .before .loop-test .taken)
-    (turned-part (c .before .before .before .before .before .before .before .before .before .before .before .args .trace .now) (loop .at) (c .enum-told .given .1) (c .before .before .one-record .ensures))
+    let loop = c .before .before .before .before .before .before .before .before .before .before .loop in
+    going-took (loop .inv) _ (c .before .before .before .before .before .before .before .before .before .loop-test .taken) (turned-part (c .before .before .before .before .before .before .before .before .before .before .before .before .args .trace .now) (loop .at) (c .enum-told .given .1) (c .before .before .before .one-record .ensures))
 
--- src/lib.rt:163:27
 enum-told-2 : tie.Need-enum-told-2 Inv-loop μ-loop
 enum-told-2 c = search needs
 
--- src/lib.rt:164:27
-add-t30 : tie.Need-add-t30 Inv-loop μ-loop
-add-t30 c =
-    let loop = c .before .before .before .before .before .before .before .before .before .loop in
-    let h =
-    going-ended (loop .inv) _ (c .before .before .before .before .before .before .before .before .loop-test .taken)
-    (turned-part (c .before .before .before .before .before .before .before .before .before .before .before .args .trace .now) (loop .at) (c .enum-told2 .given .1) (c .before .before .one-record .ensures)) in
-    omega (arith, h .within, c .before .before .before .before .before .before .before .before .before .before .before .good .1 .1 .1 .1 .1 .1 .1 .1 .1 .0)
+add-t27 : tie.Need-add-t27 Inv-loop μ-loop
+add-t27 c =
+    let loop = c .before .before .before .before .before .before .before .before .before .before .loop in
+    let h = going-ended (loop .inv) _ (c .before .before .before .before .before .before .before .before .before .loop-test .taken) (turned-part (c .before .before .before .before .before .before .before .before .before .before .before .before .args .trace .now) (loop .at) (c .enum-told2 .given .1) (c .before .before .before .one-record .ensures)) in
+    omega (arith, h .within, c .before .before .before .before .before .before .before .before .before .before .before .before .good .1 .1 .1 .1 .1 .1 .1 .0)
 
--- src/lib.rt:161:17
 returns : tie.Need-returns Inv-loop μ-loop
 returns c =
-    let loop = c .before .before .before .before .before .before .before .before .before .loop in
-    going-ended (loop .inv) _ (c .before .before .before .before .before .before .before .before .loop-test .taken)
-    (turned-part (c .before .before .before .before .before .before .before .before .before .before .before .args .trace .now) (loop .at) (c .enum-told2 .given .1) (c .before .before .one-record .ensures))
+    let loop = c .before .before .before .before .before .before .before .before .before .before .loop in
+    going-ended (loop .inv) _ (c .before .before .before .before .before .before .before .before .before .loop-test .taken) (turned-part (c .before .before .before .before .before .before .before .before .before .before .before .before .args .trace .now) (loop .at) (c .enum-told2 .given .1) (c .before .before .before .one-record .ensures))
 
--- src/lib.rt:170:22
 enum-known-did : tie.Need-enum-known-did Inv-loop μ-loop
 enum-known-did c = search needs
 
--- src/lib.rt:171:17
 returns-2 : tie.Need-returns-2 Inv-loop μ-loop
 returns-2 c =
-    let loop = c .before .before .before .before .before .before .before .before .before .before .loop in
-    going-refused (loop .inv) _ _ (c .before .before .before .before .before .before .before .before .before .loop-test .taken)
-    (turned-part (c .before .before .before .before .before .before .before .before .before .before .before .before .args .trace .now) (loop .at) (c .before .did .given .1) (c .before .before .before .one-record .ensures))
+    let loop = c .before .before .before .before .before .before .before .before .before .before .before .loop in
+    going-refused (loop .inv) _ _ (c .before .before .before .before .before .before .before .before .before .before .loop-test .taken) (turned-part (c .before .before .before .before .before .before .before .before .before .before .before .before .before .args .trace .now) (loop .at) (c .before .did .given .1) (c .before .before .before .before .one-record .ensures))
 
--- src/lib.rt:128:1
 returns-3 : tie.Need-returns-3 Inv-loop μ-loop
 returns-3 c = going-done (c .before .loop .inv) (c .loop-test .left)
 
@@ -117,7 +92,7 @@ records-spec =
     loop-less
     loop-again
     enum-told-2
-    add-t30
+    add-t27
     returns
     enum-known-did
     returns-2

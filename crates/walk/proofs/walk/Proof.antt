@@ -1,56 +1,131 @@
-use borrow.Author.Needs.{needs}
+-- `walk::walk` meets its contract: refusal 10, or the records on its arrays, tidied.
 use Prim.Native.Nat.{ℕ}
-use mathlib.Core.Path.{sym, ap, _∙_}
+use mathlib.Core.Path.{_≡_, sym, ap, subst, _∙_}
+use mathlib.Core.Bool.{false}
+use mathlib.Core.List.{List}
+use Rattle.session.specs.declared.Session.{Session}
+use Rattle.session.specs.Record.{out-of-range}
+use Rattle.session.specs.Lent.{in-arrays, tidied, Ready}
 use Rattle.session.proofs.Range.{ranged}
-use Rattle.walk.specs.Walk.{walk-on}
+use Rattle.session.proofs.Ready.{tidied-ready}
+use Rattle.walk.specs.declared.Walked.{Walked}
+use Rattle.walk.specs.Walk.{Walking, walk-on, in-numbers, budget-of, walk-of}
 use Rattle.walk.proofs.Going.{walk-refused, walk-taken}
+use Rattle.walk.proofs.Tidied.{Same, took, none, same-walk}
+use borrow.Author.Needs.{needs}
 use Rattle.walk.proofs.walk.Statement.{statement}
 use Rattle.walk.proofs.walk.Tie as tie
-use Rattle.walk.proofs.walk.Reads as reads
-use Rattle.walk.proofs.walk.Lts as lts
-use Rattle.matcher.proofs.table.Reads as table-reads
-use Rattle.session.proofs.unfit.Reads as unfit-reads
-use Rattle.walk.proofs.limited.Reads as limited-reads
-use Rattle.walk.proofs.records.Reads as records-reads
 
--- src/lib.rt:205:8
+-- refusal 10 does not name the record
+fit : (e : tie.Else1) → out-of-range (e .before .before .before .args .s) ≡ false
+fit e = sym (e .before .unfit .ensures) ∙ e .if1 .left
+
+-- from the tidied arrays back to where refusal 10 was passed
+abbrev passed : tie.After-tidy → tie.Else1
+passed j = j .before .before .before .before .before .before .before .before .before .before .before .before .before .before
+
+abbrev given : tie.After-tidy → Session
+given j = passed j .before .before .before .args .s
+
+abbrev trace : tie.After-tidy → List ℕ
+trace j = passed j .before .before .before .args .trace .now
+
+abbrev budget : tie.After-tidy → ℕ
+budget j = passed j .before .before .before .args .budget
+
+-- the walk on lent arrays, as its record
+abbrev lent : tie.After-records → Walked
+lent k =
+    let r = k .records in
+    record {
+      taken = r .result .taken;
+      stop = r .result .stop;
+      read = r .result .read;
+      session = in-arrays (given (k .before .before .before .before .before .before .before) .property) (r .last .1 .1 .0) (r .last .1 .1 .1 .0) (r .last .1 .1 .1 .1 .0) (r .last .1 .1 .1 .1 .1 .0) (r .result .status);
+    }
+
+walked : (k : tie.After-records) → walk-on (budget-of (budget (k .before .before .before .before .before .before .before))) (tidied (given (k .before .before .before .before .before .before .before))) (trace (k .before .before .before .before .before .before .before)) ≡ lent k
+walked k =
+    let j = k .before .before .before .before .before .before .before in
+    ap (λ (b : ℕ). walk-on b (tidied (given j)) (trace j)) (sym (k .before .limited .ensures))
+    ∙ ap (λ (x : Session). walk-on (k .before .limited .result) x (trace j)) (sym (j .tidy .ensures))
+    ∙ k .records .ensures .walked
+
+-- with no record taken the record comes back as it was; otherwise that of the arrays
+module _ (k : tie.After-records) where
+  abbrev s : Session
+  s = given (k .before .before .before .before .before .before .before)
+
+  abbrev on : Walked
+  on = walk-on (budget-of (budget (k .before .before .before .before .before .before .before))) s (trace (k .before .before .before .before .before .before .before))
+
+  abbrev promised : Walking
+  promised = walk-of s (trace (k .before .before .before .before .before .before .before)) (budget (k .before .before .before .before .before .before .before))
+
+  is-on : in-numbers on ≡ promised
+  is-on = sym (walk-taken s (trace (k .before .before .before .before .before .before .before)) (budget (k .before .before .before .before .before .before .before)) (fit (passed (k .before .before .before .before .before .before .before))))
+
+  by-same : (w : Walked) → Same s (fit (passed (k .before .before .before .before .before .before .before))) on w → (w .taken ≡ 0 → in-numbers (record { taken = 0; stop = w .stop; read = w .read; session = s }) ≡ promised) × ((w .taken ≡ 0 → ⊥) → in-numbers w ≡ promised)
+  by-same w (took q h) = ((λ z. absurd (h z)), (λ n. ap in-numbers (sym q) ∙ is-on))
+  by-same w (none z q) = ((λ y. ap in-numbers (sym q) ∙ is-on), (λ n. absurd (n z)))
+
+  unchanged : k .records .result .taken ≡ 0 → walk-on (budget-of (budget (k .before .before .before .before .before .before .before))) (tidied s) (trace (k .before .before .before .before .before .before .before)) ≡ lent k
+      → in-numbers (record { taken = 0; stop = k .records .result .stop; read = k .records .result .read; session = s }) ≡ promised
+  unchanged z e =
+      by-same (lent k) (subst (Same s (fit (passed (k .before .before .before .before .before .before .before))) on) e (same-walk s (fit (passed (k .before .before .before .before .before .before .before))) (budget-of (budget (k .before .before .before .before .before .before .before))) (trace (k .before .before .before .before .before .before .before)))) .0 z
+
+  changed : (k .records .result .taken ≡ 0 → ⊥) → walk-on (budget-of (budget (k .before .before .before .before .before .before .before))) (tidied s) (trace (k .before .before .before .before .before .before .before)) ≡ lent k → in-numbers (lent k) ≡ promised
+  changed z e =
+      by-same (lent k) (subst (Same s (fit (passed (k .before .before .before .before .before .before .before))) on) e (same-walk s (fit (passed (k .before .before .before .before .before .before .before))) (budget-of (budget (k .before .before .before .before .before .before .before))) (trace (k .before .before .before .before .before .before .before)))) .1 z
+
 unfit-requires : tie.Need-unfit-requires
 unfit-requires c κs = search needs
 
--- src/lib.rt:206:9
 returns : tie.Need-returns
 returns c =
     let a = c .before .before .before .args in
     sym (walk-refused (a .s) (a .trace .now) (a .budget) (sym (c .before .unfit .ensures) ∙ c .if1 .taken))
 
--- src/lib.rt:214:17
 table-requires : tie.Need-table-requires
-table-requires c κs = ranged (c .before .before .before .before .args .s) (sym (c .before .before .unfit .ensures) ∙ c .before .if1 .left) .formed
+table-requires c κs =
+    ranged (c .before .before .before .before .before .before .args .s) (fit (c .before .before .before)) .formed
 
--- src/lib.rt:219:114
+tidy-requires : tie.Need-tidy-requires
+tidy-requires c κs =
+    (record { held-long = search needs; acts-long = search needs; masks-long = search needs; marks-long = search needs }, fit (c .before .before .before .before .before .before .before .before .before .before .before .before .before))
+
 limited-requires : tie.Need-limited-requires
 limited-requires c κs = search needs
 
--- src/lib.rt:219:9
 records-requires : tie.Need-records-requires
-records-requires c κs = (
-  record {
-    fits = sym (c .before .before .before .before .before .before .before .before .before .before .before .before .before .unfit .ensures) ∙ c .before .before .before .before .before .before .before .before .before .before .before .before .if1 .left;
-    whole = record { held-long = search needs; acts-long = search needs; masks-long = search needs; broken-long = search needs };
-  },
-  c .before .before .before .before .before .before .before .before .before .before .table .ensures,
-)
+records-requires c κs =
+    let j = c .before .before .before .before .before .before in
+    (subst Ready (sym (j .tidy .ensures)) (tidied-ready (given j) (fit (passed j))), c .before .before .before .before .before .before .before .before .before .before .before .before .before .before .before .before .table .ensures)
 
--- src/lib.rt:202:1
 returns-2 : tie.Need-returns-2
 returns-2 c =
-    let a = c .before .before .before .before .before .before .before .before .before .before .before .before .before .before .before .before .args in
-    sym
-    (walk-taken (a .s) (a .trace .now) (a .budget) (sym (c .before .before .before .before .before .before .before .before .before .before .before .before .before .before .unfit .ensures) ∙ c .before .before .before .before .before .before .before .before .before .before .before .before .before .if1 .left)
-    ∙ ap (λ (b : ℕ). walk-on b (a .s) (a .trace .now)) (sym (c .before .limited .ensures))
-    ∙ c .records .ensures .walked)
+    let k = c .before .before in
+    unchanged k (c .if2 .taken) (walked k)
+
+made-requires : tie.Need-made-requires
+made-requires c κs = search needs
+
+returns-3 : tie.Need-returns-3
+returns-3 c =
+    let k = c .before .before .before in
+    ap (λ (x : Session). in-numbers (record { taken = k .records .result .taken; stop = k .records .result .stop; read = k .records .result .read; session = x })) (c .made .ensures)
+    ∙ changed k (c .before .if2 .left) (walked k)
 
 pub walk-spec : {M : Type 1} → statement M
 walk-spec =
     tie.close
-    (tie.spec unfit-requires returns table-requires limited-requires records-requires returns-2)
+    (tie.spec
+    unfit-requires
+    returns
+    table-requires
+    tidy-requires
+    limited-requires
+    records-requires
+    returns-2
+    made-requires
+    returns-3)

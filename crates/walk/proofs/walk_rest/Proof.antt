@@ -1,3 +1,4 @@
+-- `walk::walk_rest` meets its contract: the part behind what was read, or the whole slice.
 use borrow.Author.Needs.{needs}
 use Prim.Native.Nat.{_-_}
 use mathlib.Core.Path.{refl, sym}
@@ -6,31 +7,24 @@ use lib.ListN.{length}
 use lib.Seq.{take-all}
 use denote.Ref.{now}
 use borrow.Author.Tests.{lt-ltb, le-ltb}
-use Rattle.record_form.proofs.Reading.{rest-part}
+use Rattle.fields.proofs.Rest.{rest-part}
 use Rattle.walk.proofs.walk_rest.Statement.{statement}
 use Rattle.walk.proofs.walk_rest.Tie as tie
-use Rattle.walk.proofs.walk_rest.Reads as reads
-use Rattle.walk.proofs.walk_rest.Lts as lts
 
--- src/lib.rt:244:9
 returns : tie.Need-returns
 returns c =
     let s = now (c .before .args .trace) in
     rest-part 0 _ _ _ (simp (lt-ltb _ _ (c .if1 .taken))) refl (omega arith) (sym (take-all (length s - 0) s (omega arith)))
 
--- src/lib.rt:246:5
 sub-result : tie.Need-sub-result
 sub-result c = search needs
 
--- src/lib.rt:246:5
 part-result-start : tie.Need-part-result-start
 part-result-start c = search needs
 
--- src/lib.rt:246:5
 part-result-end : tie.Need-part-result-end
 part-result-end c = search needs
 
--- src/lib.rt:240:1
 returns-2 : tie.Need-returns-2
 returns-2 c = rest-part (c .before .before .args .read) _ _ _ (simp (le-ltb _ _ (c .before .if1 .left))) refl (omega arith) refl
 
