@@ -3,8 +3,10 @@ mod read;
 mod write;
 
 ghost use mathlib.Core.Path.{_≡_};
+ghost use Prim.Native.Nat.{_<_};
 ghost use Rattle.property.specs.Meant.{meant};
 ghost use Rattle.fields.specs.Rest.{Rest};
+ghost use Rattle.property_form.specs.Form.{form-size};
 ghost use Rattle.property_form.specs.Read.{read, taken};
 ghost use Rattle.property_form.specs.Write.{written, left};
 
@@ -18,6 +20,14 @@ pub struct PropertyRead {
 pub struct Written {
     pub refusal: u64,
     pub size: usize,
+}
+
+// The number of bytes of a packed property of n actions.
+pub fn form_bytes(n: usize) -> usize
+    requires { ⌜ n < 64 ⌝ }
+    ensures { λ r. ⌜ r ≡ form-size n ⌝ }
+{
+    read::size_of(n)
 }
 
 // Takes one packed property from the front of the bytes.

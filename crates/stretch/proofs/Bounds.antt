@@ -11,27 +11,28 @@ use Rattle.meaning.specs.Limits.{last-stamp, most-open}
 use Rattle.meaning.specs.Words.{Line}
 use Rattle.meaning.specs.Words
 use Rattle.meaning.specs.Numbers.{given, first-of, property-refusal, length-outside, bounds-outside, any-action-above, action-above}
-use Rattle.meaning.specs.Calls.{Call, unless-refused, stamp-refusal}
-use Rattle.meaning.specs.Calls
-use Rattle.meaning.specs.Step.{lengths, cuts-verdict, cuts-open, cuts-with-line, cuts-refusal, cuts-told, cuts-taken, fresh-cuts}
+use Rattle.meaning.specs.Calls.{Call, stamp-refusal}
 use Rattle.property.specs.Meant.{meant}
 use Rattle.property.specs.declared.Property.{Property}
 use Rattle.property_form.specs.Read.{read, read-refusal, too-short, pad-broken, property-read, taken}
 use Rattle.fields.specs.Fields.{field}
 use Rattle.property_form.proofs.Answers.{refusal-read}
-use Rattle.record_form.specs.Record.{record-answer, record-size, broken, stamp-above, fields-refusal}
+use Rattle.record_form.specs.Record.{RecordAnswer, record-answer, record-size, broken, stamp-above, fields-refusal}
 use Rattle.record_form.specs.Record
+use Rattle.record_form.specs.ReadAs.{ReadAs, read-as}
 use Rattle.record_form.proofs.Reading.{refusal-of as read-number}
+use Rattle.record_form.proofs.ReadAs.{refused-given}
+use Rattle.cuts.specs.Steps.{fresh-by, verdict-by, refusal-by, taken-by}
 use Rattle.session.specs.declared.Session.{Session}
-use Rattle.session.specs.declared.Stepped.{Stepped}
-use Rattle.session.specs.Record.{cuts-of, record-of, out-of-range}
-use Rattle.session.specs.Step.{stepped-of, refusal-of, answer-of}
+use Rattle.session.specs.Record.{latest-of, blind-of, cuts-of, record-of, out-of-range}
+use Rattle.session.specs.Step.{stepped-of, refusal-of, standing}
+use Rattle.session.proofs.Steps.{answer-refusal}
 use Rattle.walk.specs.declared.Stop.{Stop}
 use Rattle.walk.specs.declared.Stop.the-variants.{Budget, End, Refused}
 use Rattle.walk.specs.declared.Walked.{Walked}
-use Rattle.walk.specs.Walk.{One, one-call, try-call, one-kind, one-read, one-of, walked-by, walk-on}
+use Rattle.walk.specs.Walk.{One, one-call, one-read, one-of, walked-by, walk-on}
 use Rattle.stretch.specs.declared.Judged.{Judged}
-use Rattle.stretch.specs.Judge.{refused, standing, ended, by-stop, walked, trace-judged, by-property, judge-of}
+use Rattle.stretch.specs.Judge.{refused, by-stop, walked, trace-judged, by-property, judge-of}
 
 first-le : (m x y : ℕ) → x ≤ m → y ≤ m → first-of x y ≤ m
 first-le m zero y h k = k
@@ -70,41 +71,22 @@ record-le s before =
 
 refusal-le : (s : Session) (c : Call) → refusal-of s c ≤ 10
 unfolding refusal-of
-refusal-le s c =
-    then-le 10 (out-of-range s) (cuts-refusal (meant (s .property)) (lengths (meant (s .property))) (cuts-of s) c) (omega arith) (step-le c)
+refusal-le s c = then-le 10 (out-of-range s) (refusal-by (s .property) (cuts-of s) c) (omega arith) (step-le c)
   where
     stamp-le : (latest t : ℕ) → stamp-refusal latest t ≤ 10
     stamp-le latest t = two-le 4 5 (ltb last-stamp t) (ltb t latest) (omega arith) (omega arith)
 
     room : Line → Bool
-    room l = not (s .blind) && ltb most-open (cuts-open (meant (s .property)) (lengths (meant (s .property))) (cuts-with-line (meant (s .property)) (lengths (meant (s .property))) (cuts-of s) l))
+    room l = not (blind-of s) && ltb most-open (length (taken-by (s .property) (cuts-of s) (Call.line l) .front .held))
 
-    step-le : (c : Call) → cuts-refusal (meant (s .property)) (lengths (meant (s .property))) (cuts-of s) c ≤ 10
+    step-le : (c : Call) → refusal-by (s .property) (cuts-of s) c ≤ 10
     step-le (Call.line l) =
-        then-le 3 (action-above (l .action)) (first-of (stamp-refusal (s .latest) (l .stamp)) (given 6 (room l))) (omega arith)
-        (first-le 10 (stamp-refusal (s .latest) (l .stamp)) (given 6 (room l)) (stamp-le (s .latest) (l .stamp)) (given-le 10 6 (room l) (omega arith)))
-    step-le (Call.mark g) = stamp-le (s .latest) g
+        then-le 3 (action-above (l .action)) (first-of (stamp-refusal (latest-of s) (l .stamp)) (given 6 (room l))) (omega arith)
+        (first-le 10 (stamp-refusal (latest-of s) (l .stamp)) (given 6 (room l)) (stamp-le (latest-of s) (l .stamp)) (given-le 10 6 (room l) (omega arith)))
+    step-le (Call.mark g) = stamp-le (latest-of s) (g .stamp)
 
 stepped-le : (s : Session) (c : Call) → stepped-of s c .answer .refusal ≤ 10
-unfolding stepped-of
-stepped-le s c = go (refusal-of s c) (refusal-le s c)
-  where
-    made : ℕ → Stepped
-    made k =
-        unless-refused k
-        (record {
-          answer = answer-of (cuts-told (meant (s .property)) (lengths (meant (s .property))) (cuts-of s) c);
-          session = record-of (s .property) (cuts-taken (meant (s .property)) (lengths (meant (s .property))) (cuts-of s) c);
-        })
-        (record { answer = answer-of (Calls.refused k); session = s })
-
-    told-le : (d : Call) → cuts-told (meant (s .property)) (lengths (meant (s .property))) (cuts-of s) d .refusal ≤ 10
-    told-le (Call.line l) = omega arith
-    told-le (Call.mark g) = omega arith
-
-    go : (k : ℕ) → k ≤ 10 → made k .answer .refusal ≤ 10
-    go zero h = told-le c
-    go (suc k) h = h
+stepped-le s c = subst (λ (n : ℕ). n ≤ 10) (sym (answer-refusal s c)) (refusal-le s c)
 
 -- of one record and of a walk
 abbrev OneLe : One → Type 0
@@ -118,21 +100,19 @@ StopLe End = Unit {0}
 StopLe (Refused n) = n ≤ 10
 
 one-le : (s : Session) (bytes : List ℕ) → OneLe (one-of s bytes)
-one-le s bytes = go _ _ _ _ (record-le bytes (s .latest))
+one-le s bytes = go (read-as answer) (λ n e. subst (λ (m : ℕ). m ≤ 10) (refused-given answer n e .1) (record-le bytes (latest-of s)))
   where
+    answer : RecordAnswer
+    answer = record-answer bytes (latest-of s)
+
     call : (c : Call) (n : ℕ) → n ≤ 10 → OneLe (one-call s c n)
     call c zero h = unfold one-call in tt
     call c (suc n) h = unfold one-call in h
 
-    kind : (k a t : ℕ) → OneLe (one-kind s k a t)
-    kind zero a t = unfold one-kind in (call _ _ (stepped-le s _))
-    kind (suc zero) a t = unfold one-kind in (call _ _ (stepped-le s _))
-    kind (suc (suc zero)) a t = unfold one-kind in (call _ _ (stepped-le s _))
-    kind (suc (suc (suc k))) a t = unfold one-kind in tt
-
-    go : (n k a t : ℕ) → n ≤ 10 → OneLe (one-read s n k a t)
-    go zero k a t h = unfold one-read in (kind k a t)
-    go (suc n) k a t h = unfold one-read in h
+    go : (x : ReadAs) → ((n : ℕ) → x ≡ ReadAs.refused n → n ≤ 10) → OneLe (one-read s x)
+    go (ReadAs.call c) h = unfold one-read in (call c _ (stepped-le s c))
+    go ReadAs.end h = unfold one-read in tt
+    go (ReadAs.refused n) h = unfold one-read in (h n refl)
 
 walk-le : (budget : ℕ) (s : Session) (bytes : List ℕ) → StopLe (walk-on budget s bytes .stop)
 unfolding walk-on
@@ -151,37 +131,37 @@ verdict-le Verdict.suspect = omega arith
 verdict-le Verdict.certain = omega arith
 verdict-le Verdict.blind = omega arith
 
-pub record Small (j : Judged) : Type 0 where
+pub record Bounded (j : Judged) : Type 0 where
   pub refusal-small : j .refusal ≤ 10
   pub verdict-small : j .verdict ≤ 3
 
-refused-small : (n : ℕ) → n ≤ 10 → Small (refused n)
+refused-small : (n : ℕ) → n ≤ 10 → Bounded (refused n)
 refused-small n h = record { refusal-small = h; verdict-small = omega arith }
 
-stop-small : (stop : Stop) → StopLe stop → (behind : Bool) (w : Walked) → Small (by-stop stop behind w)
-unfolding by-stop
+stop-small : (stop : Stop) → StopLe stop → (behind : Bool) (w : Walked) → Bounded (by-stop stop behind w)
+unfolding by-stop standing
 stop-small Budget h behind w = refused-small 7 (omega arith)
 stop-small (Refused n) h behind w = refused-small n h
 stop-small End h true w = refused-small 8 (omega arith)
 stop-small End h false w =
     record {
       refusal-small = omega arith;
-      verdict-small = verdict-le (cuts-verdict (meant (w .session .property)) (lengths (meant (w .session .property))) (cuts-of (w .session)));
+      verdict-small = verdict-le (verdict-by (w .session .property) (cuts-of (w .session)));
     }
 
-pub judge-small : (property trace : List ℕ) → Small (judge-of property trace)
+pub judge-small : (property trace : List ℕ) → Bounded (judge-of property trace)
 unfolding judge-of
 judge-small property trace =
     go (read property .refusal) (read-le property) (ltb (taken property) (length property)) (trace-judged p trace)
-    (stop-small (walked p trace .stop) (walk-le (length trace) (record-of p (fresh-cuts (meant p) (lengths (meant p)))) trace) (ltb (walked p trace .read) (length trace)) (walked p trace))
+    (stop-small (walked p trace .stop) (walk-le (length trace) (record-of p (fresh-by p)) trace) (ltb (walked p trace .read) (length trace)) (walked p trace))
   where
     p : Property
     p = read property .property
 
-    go : (n : ℕ) → n ≤ 10 → (behind : Bool) (j : Judged) → Small j → Small (by-property n behind j)
+    go : (n : ℕ) → n ≤ 10 → (behind : Bool) (j : Judged) → Bounded j → Bounded (by-property n behind j)
     go zero h true j k = unfold by-property in (refused-small 8 (omega arith))
     go zero h false j k = unfold by-property in k
     go (suc n) h behind j k = unfold by-property in (refused-small (suc n) h)
 
-pub judged-small : (property trace : List ℕ) (j : Judged) → j ≡ judge-of property trace → Small j
-judged-small property trace j e = subst Small (sym e) (judge-small property trace)
+pub judged-small : (property trace : List ℕ) (j : Judged) → j ≡ judge-of property trace → Bounded j
+judged-small property trace j e = subst Bounded (sym e) (judge-small property trace)

@@ -2,69 +2,49 @@
 use Prim.Native.Nat.{ℕ, zero, suc, _+_, _*_, _≤_, _<_}
 use mathlib.Core.Path.{_≡_, refl, sym, _∙_, ap, subst}
 use mathlib.Core.Bool.{Bool, true, false, cond}
-use mathlib.Core.List.{List, [], _∷_}
+use mathlib.Core.List.{List}
 use native.Mathlib.Omega.{arith}
-use lib.ListN.{length, drop, length-drop}
+use lib.ListN.{length}
 use lib.Dec.{ltb}
 use borrow.Author.Tests.{lt-ltb, le-ltb}
-use denote.Ref.{RefT, now}
 use Rattle.meaning.specs.Node.{Verdict, verdict-number}
 use Rattle.meaning.specs.Numbers.{property-refusal}
-use Rattle.meaning.specs.Calls.{unless-refused}
-use Rattle.meaning.specs.Calls
-use Rattle.meaning.specs.Step.{lengths, fresh-cuts, front-verdict, cuts-verdict, told}
 use Rattle.property.specs.Meant.{meant}
 use Rattle.property.specs.declared.Property.{Property}
-use Rattle.property.proofs.Sequence.{length-first}
-use Rattle.fields.specs.Rest.{Rest}
+use Rattle.property.proofs.Refusal.{taken-bounds}
 use Rattle.property_form.specs.declared.PropertyRead.{PropertyRead}
-use Rattle.property_form.specs.Read.{read, read-refusal, taken}
-use Rattle.property_form.proofs.Answers.{refusal-read, not-refused, property-of-read, taken-le}
+use Rattle.property_form.specs.Form.{form-size}
+use Rattle.property_form.specs.Read.{property-read, read, read-refusal, taken}
+use Rattle.property_form.proofs.Answers.{refusal-read, not-refused, property-of-read, taken-all}
+use Rattle.cuts.specs.Steps.{front-none, front-says, fresh-by}
+use Rattle.cuts.specs.Arrays.{front-of}
 use Rattle.session.specs.declared.Session.{Session}
 use Rattle.session.specs.declared.Stepped.{Stepped}
-use Rattle.session.specs.Record.{cuts-of, record-of, out-of-range}
+use Rattle.session.specs.Record.{count-of, blind-of, record-of}
 use Rattle.session.specs.Lent.{in-arrays, Ready}
-use Rattle.session.specs.Step.{fresh-of, answer-of, no-session}
-use Rattle.session.proofs.Range.{in-range, fresh-fit}
+use Rattle.session.specs.Step.{fresh-of, standing}
+use Rattle.session.proofs.Fit.{fresh-fit}
+use Rattle.session.proofs.Steps.{fresh-taken}
+use Rattle.session.proofs.Ready.{fit-ready}
 use Rattle.walk.specs.declared.Stop.{Stop}
 use Rattle.walk.specs.declared.Stop.the-variants.{Budget, End, Refused}
 use Rattle.walk.specs.declared.Walked.{Walked}
 use Rattle.walk.specs.Walk.{walk-on}
 use Rattle.stretch.specs.declared.Judged.{Judged}
-use Rattle.stretch.specs.Judge.{refused, standing, ended, by-stop, walked, trace-judged, by-property, judge-of, in-one, one-number}
+use Rattle.stretch.specs.Judge.{refused, ended, by-stop, trace-judged, by-property, judge-of, in-one, one-number}
 
 module _ (p : Property) (good : property-refusal (meant p) ≡ 0) where
-  -- a fresh session of a property that is taken
-  pub fresh-is : (r : Stepped) → r ≡ fresh-of p → r .session ≡ record-of p (fresh-cuts (meant p) (lengths (meant p)))
-  unfolding fresh-of
-  fresh-is r e =
-      ap (λ (x : Stepped). x .session) e
-      ∙ ap
-      (λ (n : ℕ).
-      unless-refused {A = Stepped} n
-      (record {
-        answer = answer-of (told (meant p) (lengths (meant p)) Verdict.clear 0);
-        session = record-of p (fresh-cuts (meant p) (lengths (meant p)));
-      })
-      (record { answer = answer-of (Calls.refused n); session = no-session }) .session)
-      good
-
-  -- its arrays, with the property beside them
+  -- the arrays of a fresh session of a property that is taken, with the property beside them
   abbrev pub lent : Stepped → Session
   lent r =
       let s : Session = r .session in
-      in-arrays p (s .held) (s .acts) (s .masks) (s .broken) (s .count) (s .latest) (s .blind)
+      in-arrays p (s .shared .held) (s .shared .acts) (s .row .masks) (s .row .marks) (s .shared .status)
 
-  lent-is : (r : Stepped) → r ≡ fresh-of p → lent r ≡ record-of p (fresh-cuts (meant p) (lengths (meant p)))
-  lent-is r e = ap (λ (s : Session). in-arrays p (s .held) (s .acts) (s .masks) (s .broken) (s .count) (s .latest) (s .blind)) (fresh-is r e)
+  lent-is : (r : Stepped) → r ≡ fresh-of p → lent r ≡ record-of p (fresh-by p)
+  lent-is r e = ap (λ (x : Stepped). lent x) (e ∙ fresh-taken p good)
 
   pub fresh-ready : (r : Stepped) → r ≡ fresh-of p → Ready (lent r)
-  fresh-ready r e =
-      subst Ready (sym (lent-is r e))
-      (record {
-        fits = in-range p good (fresh-fit p good);
-        whole = record { held-long = length-first _ 64; acts-long = length-first _ 64; masks-long = length-first _ 65; broken-long = length-first _ 65 };
-      })
+  fresh-ready r e = subst Ready (sym (lent-is r e)) (fit-ready p good (fresh-fit p))
 
   -- the judgement, by what the walk over the trace came to
   pub judged-by : (trace : List ℕ) (r : Stepped) → r ≡ fresh-of p → (w : Walked) → walk-on (length trace) (lent r) trace ≡ w
@@ -117,37 +97,49 @@ module _ (property trace : List ℕ) (r : PropertyRead) (e : r ≡ read property
           ≡ cond (ltb (taken property) (length property)) (refused 8) (trace-judged (read property .property) trace)
       shown = unfold by-property in refl
 
-  -- bytes behind the property
-  pub bytes-behind : (rest : List ℕ) → rest ≡ drop (taken property) property → 0 < length rest → judge-of property trace ≡ refused 8
-  bytes-behind rest d h =
-      let lt : taken property < length property = omega (arith, length-drop (taken property) property, ap length d) in
-      by-taken ∙ ap (λ (t : Bool). cond t (refused 8) (trace-judged (read property .property) trace)) (lt-ltb (taken property) (length property) lt)
-
-  pub nothing-behind : (rest : List ℕ) → rest ≡ drop (taken property) property → length rest ≤ 0 → judge-of property trace ≡ trace-judged (r .property) trace
-  nothing-behind rest d h =
-      let le : length property ≤ taken property = omega (arith, length-drop (taken property) property, ap length d) in
-      by-taken
-      ∙ ap (λ (t : Bool). cond t (refused 8) (trace-judged (read property .property) trace)) (le-ltb (taken property) (length property) le)
-      ∙ ap (λ (x : PropertyRead). trace-judged (x .property) trace) (sym e)
-
   -- what was read is a property that no refusal names
   pub taken-good : property-refusal (meant (r .property)) ≡ 0
   taken-good =
       let none : read-refusal property ≡ 0 = sym (refusal-read property) ∙ sym (ap (λ (x : PropertyRead). x .refusal) e) ∙ z in
       ap (λ (q : Property). property-refusal (meant q)) (ap (λ (x : PropertyRead). x .property) e ∙ property-of-read property none) ∙ not-refused property none
 
--- the verdict standing
-pub standing-blind : (s : Session) → s .blind ≡ true → 3 ≡ standing s
-standing-blind s e =
-    ap
-    (λ (t : Bool). verdict-number (cond t Verdict.blind (front-verdict (meant (s .property)) (lengths (meant (s .property))) (cuts-of s .front))))
-    (sym e)
+  pub taken-few : r .property .n < 64
+  taken-few = omega (arith, taken-bounds (r .property) taken-good .most)
 
-pub standing-open : (s : Session) → s .blind ≡ false → verdict-number (front-verdict (meant (s .property)) (lengths (meant (s .property))) (cuts-of s .front)) ≡ standing s
-standing-open s e =
-    ap
-    (λ (t : Bool). verdict-number (cond t Verdict.blind (front-verdict (meant (s .property)) (lengths (meant (s .property))) (cuts-of s .front))))
-    (sym e)
+  -- its bytes are as many as its length says
+  taken-size : taken property ≡ form-size (r .property .n)
+  unfolding property-read
+  taken-size =
+      let none : read-refusal property ≡ 0 = sym (refusal-read property) ∙ sym (ap (λ (x : PropertyRead). x .refusal) e) ∙ z in
+      taken-all property none ∙ ap (λ (q : Property). form-size (q .n)) (sym (ap (λ (x : PropertyRead). x .property) e ∙ property-of-read property none))
+
+  -- bytes behind the property, or none
+  pub bytes-behind : (size : ℕ) → size ≡ form-size (r .property .n) → size < length property → judge-of property trace ≡ refused 8
+  bytes-behind size d h =
+      by-taken
+      ∙ ap (λ (t : Bool). cond t (refused 8) (trace-judged (read property .property) trace))
+      (ap (λ (m : ℕ). ltb m (length property)) (taken-size ∙ sym d) ∙ lt-ltb size (length property) h)
+
+  pub nothing-behind : (size : ℕ) → size ≡ form-size (r .property .n) → length property ≤ size → judge-of property trace ≡ trace-judged (r .property) trace
+  nothing-behind size d h =
+      by-taken
+      ∙ ap (λ (t : Bool). cond t (refused 8) (trace-judged (read property .property) trace))
+      (ap (λ (m : ℕ). ltb m (length property)) (taken-size ∙ sym d) ∙ le-ltb size (length property) h)
+      ∙ ap (λ (x : PropertyRead). trace-judged (x .property) trace) (sym e)
+
+-- the verdict standing
+module _ (s : Session) where
+  standing-if : (b : Bool) → blind-of s ≡ b
+      → verdict-number (cond b Verdict.blind (front-says (s .property) (cond b (front-none (s .property)) (front-of (s .shared .held) (s .shared .acts) (count-of s) (s .row))))) ≡ standing s
+  unfolding standing
+  standing-if b e =
+      ap (λ (t : Bool). verdict-number (cond t Verdict.blind (front-says (s .property) (cond t (front-none (s .property)) (front-of (s .shared .held) (s .shared .acts) (count-of s) (s .row)))))) (sym e)
+
+  pub standing-blind : blind-of s ≡ true → 3 ≡ standing s
+  standing-blind e = standing-if true e
+
+  pub standing-open : blind-of s ≡ false → verdict-number (front-says (s .property) (front-of (s .shared .held) (s .shared .acts) (count-of s) (s .row))) ≡ standing s
+  standing-open e = standing-if false e
 
 -- the one number
 pub one-long : (j : Judged) → 16_383 < j .count → 9 * 65_536 ≡ one-number j

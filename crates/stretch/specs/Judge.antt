@@ -4,14 +4,11 @@ use mathlib.Core.Bool.{Bool, cond}
 use mathlib.Core.List.{List}
 use lib.ListN.{length}
 use lib.Dec.{ltb}
-use Rattle.meaning.specs.Node.{verdict-number}
-use Rattle.meaning.specs.Step.{lengths, fresh-cuts, cuts-verdict}
-use Rattle.property.specs.Meant.{meant}
 use Rattle.property.specs.declared.Property.{Property}
-use Rattle.property_form.specs.declared.PropertyRead.{PropertyRead}
 use Rattle.property_form.specs.Read.{read, taken}
-use Rattle.session.specs.declared.Session.{Session}
-use Rattle.session.specs.Record.{cuts-of, record-of}
+use Rattle.cuts.specs.Steps.{fresh-by}
+use Rattle.session.specs.Record.{record-of}
+use Rattle.session.specs.Step.{standing}
 use Rattle.walk.specs.declared.Stop.{Stop}
 use Rattle.walk.specs.declared.Stop.the-variants.{Budget, End, Refused}
 use Rattle.walk.specs.declared.Walked.{Walked}
@@ -21,10 +18,6 @@ use Rattle.stretch.specs.declared.Judged.{Judged}
 -- "the first refusal met gives its number alone, with verdict and count 0"
 abbrev pub refused : ℕ → Judged
 refused n = record { refusal = n; verdict = 0; count = 0 }
-
--- "the verdict standing" on a session
-abbrev pub standing : Session → ℕ
-standing s = verdict-number (cuts-verdict (meant (s .property)) (lengths (meant (s .property))) (cuts-of s))
 
 -- A trace that was read up to its end record; `behind`: there are bytes behind it, which "are refusal 8, looked for when that
 -- part has been read without refusal".
@@ -39,7 +32,7 @@ by-stop (Refused n) behind w = refused n
 
 -- A fresh session walks over the whole trace: each record takes some of its bytes, so their number is budget enough.
 abbrev pub walked : Property → List ℕ → Walked
-walked p trace = walk-on (length trace) (record-of p (fresh-cuts (meant p) (lengths (meant p)))) trace
+walked p trace = walk-on (length trace) (record-of p (fresh-by p)) trace
 
 abbrev pub trace-judged : Property → List ℕ → Judged
 trace-judged p trace = by-stop (walked p trace .stop) (ltb (walked p trace .read) (length trace)) (walked p trace)

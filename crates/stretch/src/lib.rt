@@ -1,12 +1,11 @@
 // The stretch judge: a whole packed property and a whole trace give a verdict and a count.
 ghost use mathlib.Core.Path.{_≡_};
-ghost use Prim.Native.Nat.{_≤_, _<_, _^_, suc};
-ghost use lib.ListN.{getD};
-ghost use Rattle.meaning.specs.Limits.{most-open};
 ghost use Rattle.meaning.specs.Numbers.{property-refusal};
 ghost use Rattle.property.specs.Meant.{meant};
+ghost use Rattle.session.specs.Step.{standing};
 ghost use Rattle.session.specs.Lent.{in-arrays, Ready};
-ghost use Rattle.stretch.specs.Judge.{refused, standing, trace-judged, judge-of, one-number};
+ghost use Rattle.stretch.specs.Judge.{refused, trace-judged, judge-of, one-number};
+use held::Status;
 use property::Property;
 use walk::Stop;
 
@@ -36,18 +35,16 @@ fn verdict_of(
     held: &[u64; 64],
     acts: &[u8; 64],
     masks: &[u64; 65],
-    broken: &[bool; 65],
-    count: usize,
-    latest: u64,
-    blind: bool,
+    marks: &[u64; 65],
+    status: Status,
 ) -> u64
-    requires { ⌜ Ready (in-arrays p (now held) (now acts) (now masks) (now broken) count latest blind) ⌝ }
-    ensures { λ r. ⌜ r ≡ standing (in-arrays p (now (held .entry)) (now (acts .entry)) (now (masks .entry)) (now (broken .entry)) count latest blind) ⌝ }
+    requires { ⌜ Ready (in-arrays p (now held) (now acts) (now masks) (now marks) status) ⌝ }
+    ensures { λ r. ⌜ r ≡ standing (in-arrays p (now (held .entry)) (now (acts .entry)) (now (masks .entry)) (now (marks .entry)) status) ⌝ }
 {
-    if blind {
+    if status.blind {
         return 3;
     }
-    cuts::verdict(p, masks, broken, count) as u64
+    cuts::verdict(masks, marks, status.count) as u64
 }
 
 // The trace, by a property that is taken.
@@ -58,20 +55,20 @@ fn trace_verdict(p: Property, trace: &[u8]) -> Judged
     let table = matcher::table(p);
     let fresh = session::fresh(p);
     let s = fresh.session;
-    let mut held = s.held;
-    let mut acts = s.acts;
-    let mut masks = s.masks;
-    let mut broken = s.broken;
+    let shared = s.shared;
+    let row = s.row;
+    let mut held = shared.held;
+    let mut acts = shared.acts;
+    let mut masks = row.masks;
+    let mut marks = row.marks;
     let r = walk::records(
         p,
         &table,
         &mut held,
         &mut acts,
         &mut masks,
-        &mut broken,
-        s.count,
-        s.latest,
-        s.blind,
+        &mut marks,
+        shared.status,
         trace,
         trace.len(),
     );
@@ -82,7 +79,7 @@ fn trace_verdict(p: Property, trace: &[u8]) -> Judged
             if r.read < trace.len() {
                 return refusal(8);
             }
-            let verdict = verdict_of(p, &held, &acts, &masks, &broken, r.count, r.latest, r.blind);
+            let verdict = verdict_of(p, &held, &acts, &masks, &marks, r.status);
             Judged {
                 refusal: 0,
                 verdict: verdict,
@@ -102,11 +99,10 @@ pub fn judge(property: &[u8], trace: &[u8]) -> Judged
     if number != 0 {
         return refusal(number);
     }
-    let rest = property_form::property_rest(property);
-    if 0 < rest.len() {
+    let p = read.property;
+    if property_form::form_bytes(p.n) < property.len() {
         return refusal(8);
     }
-    let p = read.property;
     trace_verdict(p, trace)
 }
 

@@ -1,3 +1,4 @@
+-- `stretch::anthegyra_stretch_judge` meets its contract: the judgement in one number, which fits.
 use borrow.Author.Needs.{needs}
 use mathlib.Core.Path.{ap, _∙_}
 use native.Mathlib.Omega.{arith}
@@ -7,39 +8,28 @@ use Rattle.stretch.proofs.Judging.{one-long, one-short}
 use Rattle.stretch.proofs.Bounds.{judged-small}
 use Rattle.stretch.proofs.anthegyra_stretch_judge.Statement.{statement}
 use Rattle.stretch.proofs.anthegyra_stretch_judge.Tie as tie
-use Rattle.stretch.proofs.anthegyra_stretch_judge.Reads as reads
-use Rattle.stretch.proofs.anthegyra_stretch_judge.Lts as lts
-use Rattle.stretch.proofs.judge.Reads as judge-reads
 
--- src/lib.rt:106:9
 judge-requires : tie.Need-judge-requires
 judge-requires c κs = search needs
 
--- src/lib.rt:108:16
 mul-result : tie.Need-mul-result
 mul-result c = search needs
 
--- src/lib.rt:108:9
 returns : tie.Need-returns
 returns c = one-long (c .before .before .judge .result) (c .if1 .taken) ∙ ap one-number (c .before .before .judge .ensures)
 
--- src/lib.rt:110:5
 mul-result-2 : tie.Need-mul-result-2
 mul-result-2 c = let h = judged-small (now (c .before .before .before .before .before .before .args .property)) (now (c .before .before .before .before .before .before .args .trace)) (c .before .before .before .judge .result) (c .before .before .before .judge .ensures) in omega (arith, h .refusal-small)
 
--- src/lib.rt:110:30
 mul-result-3 : tie.Need-mul-result-3
 mul-result-3 c = let h = judged-small (now (c .before .before .before .before .before .before .before .args .property)) (now (c .before .before .before .before .before .before .before .args .trace)) (c .before .before .before .before .judge .result) (c .before .before .before .before .judge .ensures) in omega (arith, h .verdict-small)
 
--- src/lib.rt:110:5
 add-result : tie.Need-add-result
 add-result c = let h = judged-small (now (c .before .before .before .before .before .before .before .args .property)) (now (c .before .before .before .before .before .before .before .args .trace)) (c .before .before .before .before .judge .result) (c .before .before .before .before .judge .ensures) in omega (arith, h .refusal-small, h .verdict-small)
 
--- src/lib.rt:110:5
 add-result-2 : tie.Need-add-result-2
 add-result-2 c = let h = judged-small (now (c .before .before .before .before .before .before .before .args .property)) (now (c .before .before .before .before .before .before .before .args .trace)) (c .before .before .before .before .judge .result) (c .before .before .before .before .judge .ensures) in omega (arith, h .refusal-small, h .verdict-small, c .before .before .if1 .left)
 
--- src/lib.rt:102:1
 returns-2 : tie.Need-returns-2
 returns-2 c = one-short (c .before .before .before .before .judge .result) (c .before .before .if1 .left) ∙ ap one-number (c .before .before .before .before .judge .ensures)
 

@@ -1,42 +1,35 @@
-use borrow.Author.Needs.{needs}
+-- `stretch::verdict_of` meets its contract: blind, or the verdict of the last cut.
 use mathlib.Core.Path.{_∙_}
-use native.Mathlib.Nat.{le-refl}
+use native.Mathlib.Omega.{arith}
 use denote.Ref.{now}
 use Rattle.session.specs.declared.Session.{Session}
 use Rattle.session.specs.Lent.{in-arrays}
-use Rattle.session.proofs.Stepping.{ready-ranges}
+use Rattle.session.proofs.Ready.{ready-ranged}
+use Rattle.session.proofs.Advances.{open-usable}
 use Rattle.stretch.proofs.Judging.{standing-blind, standing-open}
+use borrow.Author.Needs.{needs}
 use Rattle.stretch.proofs.verdict_of.Statement.{statement}
 use Rattle.stretch.proofs.verdict_of.Tie as tie
-use Rattle.stretch.proofs.verdict_of.Reads as reads
-use Rattle.stretch.proofs.verdict_of.Lts as lts
-use Rattle.cuts.proofs.verdict.Reads as verdict-reads
 
 -- the session that the arrays hold
-abbrev sessions : tie.Start → Session
-sessions c =
-    let a = c .args in
-    in-arrays (a .p) (now (a .held)) (now (a .acts)) (now (a .masks)) (now (a .broken)) (a .count) (a .latest) (a .blind)
+abbrev entry : tie.Start → Session
+entry b = in-arrays (b .args .p) (now (b .args .held)) (now (b .args .acts)) (now (b .args .masks)) (now (b .args .marks)) (b .args .status)
 
--- src/lib.rt:48:9
 returns : tie.Need-returns
-returns c = standing-blind (sessions (c .before)) (c .if1 .taken)
+returns c = standing-blind (entry (c .before)) (c .if1 .taken)
 
--- src/lib.rt:50:5
 verdict-requires : tie.Need-verdict-requires
-verdict-requires c κs =
-    let r = ready-ranges (sessions (c .before)) (c .before .pre) (c .if1 .left) in
-    (r .counted, r .matched (c .before .args .count) (le-refl (c .before .args .count)))
+verdict-requires c κs = ready-ranged (entry (c .before)) (c .before .pre) .few
 
--- src/lib.rt:50:5
 cast-result : tie.Need-cast-result
 cast-result c = search needs
 
--- src/lib.rt:34:1
 returns-2 : tie.Need-returns-2
 returns-2 c =
-    let a = c .before .before .args in
-    c .verdict .ensures (now (a .held)) (now (a .acts)) ∙ standing-open (sessions (c .before .before)) (c .before .if1 .left)
+    let b = c .before .before in
+    let a = b .args in
+    c .verdict .ensures (a .p) (now (a .held)) (now (a .acts)) (open-usable (entry b) (b .pre) (c .before .if1 .left) .fits (a .status .count) (omega arith))
+    ∙ standing-open (entry b) (c .before .if1 .left)
 
 pub verdict-of-spec : {M : Type 1} → statement M
 verdict-of-spec = tie.close (tie.spec returns verdict-requires cast-result returns-2)
