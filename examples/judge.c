@@ -1,5 +1,12 @@
 /*
- * Judges one stretch: judge PROPERTY TRACE, two files of packed bytes.
+ * Judges one stretch: judge PROPERTY TRACE, two files of packed bytes. On x86-64, from the top folder:
+ *
+ *   rt staticlib stretch
+ *   cc -O2 -I include examples/judge.c target/staticlib/libstretch.a -o target/judge
+ *   tools/pack --property samples/switch.txt >target/property
+ *   tools/pack --trace samples/switch.txt >target/trace
+ *   target/judge target/property target/trace
+ *
  * Prints one line, 'refusal R verdict WORD count N'. The word is 'none' after a refusal, since
  * what was refused has not been found clear.
  */
@@ -35,7 +42,10 @@ static uint8_t *bytes_of(const char *name, size_t *len)
 
 int main(int argc, char **argv)
 {
-    static const char *const words[] = {"clear", "suspect", "certain", "blind"};
+    static const char *const words[] = {[ANTHEGYRA_CLEAR] = "clear",
+                                        [ANTHEGYRA_SUSPECT] = "suspect",
+                                        [ANTHEGYRA_CERTAIN] = "certain",
+                                        [ANTHEGYRA_BLIND] = "blind"};
     if (argc != 3) give_up("usage: judge PROPERTY TRACE");
     size_t property_len, trace_len;
     uint8_t *property = bytes_of(argv[1], &property_len);
@@ -43,7 +53,7 @@ int main(int argc, char **argv)
     uint64_t n = anthegyra_stretch_judge(property, property_len, trace, trace_len);
     unsigned refusal = anthegyra_refusal(n);
     printf("refusal %u verdict %s count %u\n", refusal,
-           refusal ? "none" : words[anthegyra_verdict(n)], anthegyra_count(n));
+           refusal == ANTHEGYRA_TAKEN ? words[anthegyra_verdict(n)] : "none", anthegyra_count(n));
     free(property);
     free(trace);
     return 0;

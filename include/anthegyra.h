@@ -6,38 +6,63 @@
  *   property   17 bytes for a sequence of one action, up to 44 for 32
  *   trace      6 bytes for each record, the last of them an end record; at most 16,383 others
  *
- * Both slices are only read. A slice of length 0 may have a null pointer; otherwise the pointer
- * is to that many readable bytes, which nothing else writes during the call.
+ * docs/RULES.md has both forms bit by bit. Both slices are only read. A slice of length 0 may have a
+ * null pointer; otherwise the pointer is to that many readable bytes, which nothing else writes during
+ * the call. The call is reentrant and may be made from several threads at once: it keeps nothing
+ * between calls, allocates nothing, does no input or output, and uses less than 20 KB of stack.
  *
  * One number comes back: refusal * 65,536 + verdict * 16,384 + count. Take it apart with the three
  * helpers below, the refusal first: where it is not 0, verdict and count are 0 and mean nothing.
  *
- *   verdict, standing after the last record
- *     0  clear     no order of events at the node that fits the stamps breaks the property
- *     1  suspect   some such orders break it and some do not
- *     2  certain   every such order breaks it
- *     3  blind     lines were lost at a gap mark, and no later line starts a new run
+ * The verdict is the one that stands after the last record. The count is that of the records taken,
+ * gap marks and lines skipped while blind too, the end record not. The refusal is the first one met,
+ * the property judged before the trace. What the numbers mean stands beside their names below.
  *
- *   count: the records taken, gap marks and lines skipped while blind too, the end record not
+ * Gaps. A gap mark closes the run, and the answer is of the last run alone: what was certain before the
+ * mark is not in it. So judge the stretch up to each gap mark too, with an end record in the mark's
+ * place. After a mark the answer is blind until a line comes more than 2 * UB after every stamp before
+ * it; that line begins a new run.
  *
- *   refusal: the first one met, the property judged before the trace
- *     0  none
- *     1  the sequence's length is 0 or above 32
- *     2  the bounds are outside 1 <= LB <= UB <= 60,000,000
- *     4  a stamp passes 1,099,511,627,775
- *     6  more than 64 inputs would be open
- *     7  bytes are missing: in the property, in a record, or the end record itself
- *     8  the form is broken: pad bits that are not zero, a gap mark with an action, an end record
- *        with an action or a stamp, bytes behind the property or behind the end record
- *     9  nothing else is wrong, but there are more than 16,383 records to count
- *   (3, 5 and 10 are Anthegyra's too. They cannot come from this call: six bits hold no action
- *   above 63, a stamp that is added to the one before it does not fall, and no session is given.)
+ * Longer logs. Behind 16,383 records begin the next stretch with a gap mark at the last stamp of the one
+ * before, and go on with the lines behind that. A stretch that began with those lines alone could
+ * accuse falsely: what was sent before them may have arrived among them. With bounds 10 and 30, the
+ * sequence !5 !6 and no output allowed, ?7 @180, !5 @200, !6 @200, !2 @201 is suspect, since ?7 may
+ * stand between !5 and !6; without ?7 the same outputs are certain; with a gap mark at 180 in its place
+ * they are blind, which is right. The mark costs what every gap costs: the answer is blind until a line
+ * comes more than 2 * UB later, and a breach that begins before that line goes unseen. Cut at a quiet of
+ * more than 2 * UB, where there is one, and nothing is blind. The mark is one of the next 16,383.
  */
 #ifndef ANTHEGYRA_H
 #define ANTHEGYRA_H
 
 #include <stddef.h>
 #include <stdint.h>
+
+/* One more whenever the call, its numbers, a name here or a packed form changes. */
+#define ANTHEGYRA_VERSION 1
+
+/* What the orders of events at the node that fit the stamps have in common. */
+enum anthegyra_verdict_number {
+    ANTHEGYRA_CLEAR = 0,   /* none breaks the property */
+    ANTHEGYRA_SUSPECT = 1, /* some break it and some do not */
+    ANTHEGYRA_CERTAIN = 2, /* every one breaks it */
+    ANTHEGYRA_BLIND = 3    /* lines were lost at a gap mark, and no later line starts a new run */
+};
+
+enum anthegyra_refusal_number {
+    ANTHEGYRA_TAKEN = 0,
+    ANTHEGYRA_LENGTH = 1,      /* the sequence's length is 0 or above 32 */
+    ANTHEGYRA_BOUNDS = 2,      /* the bounds are outside 1 <= LB <= UB <= 60,000,000 */
+    ANTHEGYRA_ACTION = 3,      /* an action number above 63: never from this call, six bits hold none */
+    ANTHEGYRA_STAMP_LIMIT = 4, /* a stamp passes 1,099,511,627,775 */
+    ANTHEGYRA_STAMP_FALLS = 5, /* a stamp below the latest: never from this call, stamps are added up */
+    ANTHEGYRA_ROOM = 6,        /* more than 64 inputs would be open; put a gap mark for the line */
+    ANTHEGYRA_MISSING = 7,     /* bytes are missing: in the property, in a record, or the end record */
+    ANTHEGYRA_BROKEN = 8,      /* pad bits that are not zero, a gap mark with an action, an end record
+                                  with an action or a stamp, bytes behind the property or the end record */
+    ANTHEGYRA_TOO_LONG = 9,    /* nothing else is wrong, but there are more than 16,383 records to count */
+    ANTHEGYRA_SESSION = 10     /* a session record out of range: never from this call, none is given */
+};
 
 #ifdef __cplusplus
 extern "C" {

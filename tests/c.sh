@@ -6,7 +6,8 @@
 # The archive is x86-64. On such a machine the system's C compiler builds, and the programs run as
 # they are. Elsewhere, or where C_BY_KIT is set, the kit's own compiler and linker build for x86-64 and
 # the programs run as rt runs its own: under the kit's loader and C library, and its emulator where
-# it has one. ORDERS and DAMAGED are the numbers of random inputs, 20000 each unless set.
+# it has one. ORDERS and DAMAGED are the numbers of random inputs, 20000 each unless set, and SEED
+# their generator's first number. The header is shown to the C++ compiler in CXX, c++ unless set.
 set -u
 
 [ $# -eq 2 ] || { echo "usage: tests/c.sh ARCHIVE FOLDER" >&2; exit 2; }
@@ -15,6 +16,7 @@ archive=$(cd "$(dirname "$1")" && pwd -P)/$(basename "$1")
 mkdir -p "$2" || exit 2
 build=$(cd "$2" && pwd -P)
 top=$(cd "$(dirname "$0")/.." && pwd -P)
+seed=${SEED:-20260101}
 status=0
 
 good() { printf 'c: %s\n' "$*"; }
@@ -100,15 +102,19 @@ else
     bad pack
 fi
 
-# ---- the header alone, as C++ reads it
+# ---- the header, as C++ reads it: included, since a compiler may warn of unused functions in a main file
 
-if [ -z "$kit" ] && command -v c++ >/dev/null; then
+cxx=${CXX:-c++}
+if command -v "$cxx" >/dev/null; then
+    printf '#include "anthegyra.h"\n' >"$build/header.cpp"
     # shellcheck disable=SC2086
-    if c++ -x c++ -std=c++11 $warnings -pedantic -fsyntax-only "$top/include/anthegyra.h"; then
+    if "$cxx" -std=c++11 $warnings -pedantic -fsyntax-only -I "$top/include" "$build/header.cpp"; then
         good "header: taken by C++"
     else
         bad "header: not taken by C++"
     fi
+else
+    good "header: not shown to C++, there is no $cxx"
 fi
 
 # ---- the programs
@@ -121,13 +127,13 @@ else
 fi
 
 if compile "$top/tests/orders.c" "$build/orders"; then
-    run "$build/orders" "${ORDERS:-20000}" || bad orders
+    run "$build/orders" "${ORDERS:-20000}" "$seed" || bad orders
 else
     bad "orders: not built"
 fi
 
 if compile "$top/tests/damaged.c" "$build/damaged"; then
-    run "$build/damaged" "${DAMAGED:-20000}" || bad damaged
+    run "$build/damaged" "${DAMAGED:-20000}" "$seed" || bad damaged
 else
     bad "damaged: not built"
 fi

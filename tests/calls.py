@@ -1,97 +1,32 @@
 #!/usr/bin/env python3
 """The fixed script of the console (docs/CALLS.md) and what it must give back.
 
-    tests/calls.py                     crates/calls/stdin is this script, and crates/calls/stdout meets every expectation
-    tests/calls.py --write PROGRAM..   runs the program on the script, checks what it prints, and writes both files if it holds
+    tests/calls.py                      crates/calls/stdin is this script, and crates/calls/stdout meets every expectation
+    tests/calls.py --write [PROGRAM..]  runs the program on the script, checks what it prints, and writes both files if it holds;
+                                        target/bin/calls, run as tools/listing runs its own, unless a program is named
 
-Each call of the script carries the refusal that document 01's table gives it, written by hand, and verdicts where they
-matter. Verdicts of short runs are also found here by listing every order of the run; packed forms are packed here; held
-stamps, counts, latest stamps and blindness follow document 01's 'Room' and 'Gaps'; masks and broken flags are those of one
-step over cuts and, in short runs, those of the orders listed. A refused call must leave its other numbers 0, and its session
-or buffer as it was."""
-import math
+Each call of the script carries the refusal that the table of refusals gives it, written by hand, and verdicts where they
+matter. Packed forms, held stamps, counts, latest stamps, blindness and cuts are those of tests/rules.py, by one step over cuts
+and in short runs also by listing every order of the run. A refused call must leave its other numbers 0, and its session or
+buffer as it was."""
 import os
+import shlex
 import subprocess
 import sys
 
+sys.dont_write_bytecode = True
+import rules  # noqa: E402
+from rules import END_RECORD as END, LIMIT, pack_record as rec  # noqa: E402
+
 TOP = os.path.dirname(os.path.dirname(os.path.abspath(__file__)))
-LIMIT = 2 ** 40 - 1
 HUGE = 2 ** 64 - 1
-MOST_LISTED = 5000
 
-# ---- document 01: verdicts by listing all orders
+# ---- the session record, as the script gives it and the console prints it. Each cut has a mask of matched lengths and beside it
+# a number whose bit 0 says that broken is among them. What that number is called and how many bytes it has in the script stands
+# here alone.
 
-
-def breaks(p, order):
-    n, outs, nums, allowed = p["n"], p["directions"], p["numbers"], p["allowed"]
-    sequence = [(bool(outs[i]), nums[i]) for i in range(n)]
-    acts = [(out, act) for out, act, _ in order]
-    for i in range(len(acts) - n):
-        out, act = acts[i + n]
-        if acts[i:i + n] == sequence and out and not allowed >> act & 1:
-            return True
-    return False
-
-
-def orders(p, ins, outs, moment, so_far):
-    """Orders with moments that never fall, each line's own in its range."""
-    if not ins and not outs:
-        yield so_far
-    if ins:
-        t = ins[0][2]
-        m = t + p["lb"] if moment is None else max(moment, t + p["lb"])
-        if m <= t + p["ub"]:
-            yield from orders(p, ins[1:], outs, m, so_far + [ins[0]])
-    if outs:
-        t = outs[0][2]
-        m = t - p["ub"] if moment is None else max(moment, t - p["ub"])
-        if m <= t - p["lb"]:
-            yield from orders(p, ins, outs[1:], m, so_far + [outs[0]])
-
-
-def listed(p, run):
-    """All explanations of a run, or None where there are too many orders."""
-    ins = [line for line in run if not line[0]]
-    outs = [line for line in run if line[0]]
-    if math.comb(len(run), len(ins)) > MOST_LISTED:
-        return None
-    return list(orders(p, ins, outs, None, []))
-
-
-def listed_verdict(p, run):
-    explanations = listed(p, run)
-    if explanations is None:
-        return None
-    seen = {breaks(p, order) for order in explanations}
-    assert seen
-    return 0 if seen == {False} else 2 if seen == {True} else 1
-
-
-def matched(p, order):
-    """The longest beginning of the sequence that ends here."""
-    sequence = [(bool(p["directions"][i]), p["numbers"][i]) for i in range(p["n"])]
-    acts = [(out, act) for out, act, _ in order]
-    return max(k for k in range(min(p["n"], len(acts)) + 1) if acts[len(acts) - k:] == sequence[:k])
-
-
-def listed_cuts(p, run, count):
-    """Masks and broken flags of the cuts: before the first open input, and behind each, all outputs behind the cut."""
-    explanations = listed(p, run)
-    if explanations is None:
-        return None
-    masks, broken = [0] * 65, [0] * 65
-    for order in explanations:
-        for cut in range(count, -1, -1):
-            ahead = count - cut
-            if ahead and order[len(order) - ahead][0]:
-                break
-            behind = order[:len(order) - ahead]
-            if breaks(p, behind):
-                broken[cut] = 1
-            else:
-                masks[cut] |= 1 << matched(p, behind)
-    return masks, broken
-
+BESIDE = "marks"
+BESIDE_BYTES = 8
 
 # ---- records
 
@@ -109,11 +44,11 @@ NONE = prop([], (), 0, 0)
 B = prop(["?0"])
 
 
-def session(p=B, count=0, held=(), acts=(), masks=(1,), broken=(), latest=0, blind=0):
+def session(p=B, count=0, held=(), acts=(), masks=(1,), beside=(), latest=0, blind=0):
     def full(places, size):
         return list(places) + [0] * (size - len(places))
     return {"property": p, "count": count, "held": full(held, 64), "acts": full(acts, 64), "masks": full(masks, 65),
-            "broken": full(broken, 65), "latest": latest, "blind": blind}
+            BESIDE: full(beside, 65), "latest": latest, "blind": blind}
 
 
 ZEROS = session(NONE, masks=())
@@ -124,27 +59,30 @@ def full_house(stamp, p=B, **more):
     return session(p, 64, [stamp] * 64, [0] * 64, [1] + [2] * 64, latest=stamp, **more)
 
 
-# ---- packed forms of document 01
+def meant(p):
+    """The property that a record of one stands for, as far as it has places."""
+    return rules.Property([(bool(out), act) for out, act in zip(p["directions"], p["numbers"])][:p["n"]],
+                          p["allowed"], p["lb"], p["ub"])
 
 
-def bits_to_bytes(bits):
-    bits += "0" * (-len(bits) % 8)
-    return int(bits, 2).to_bytes(len(bits) // 8, "big")
+def watch_of(s):
+    """What a session record stands for."""
+    cuts = [({k for k in range(64) if mask >> k & 1}, bool(beside & 1)) for mask, beside in zip(s["masks"], s[BESIDE])]
+    return rules.Watch(bool(s["blind"]), s["latest"], list(zip(s["held"], s["acts"]))[:s["count"]], cuts[:s["count"] + 1])
+
+
+def record_of(p, w):
+    """The session record of what it stands for."""
+    return session(p, len(w.held), [at for at, _ in w.held], [act for _, act in w.held],
+                   [sum(1 << k for k in lengths) for lengths, _ in w.cuts], [int(broken) for _, broken in w.cuts],
+                   w.latest, int(w.blind))
+
+
+# ---- packed forms
 
 
 def packed(p):
-    bits = format(p["n"], "06b") + format(p["lb"], "026b") + format(p["ub"], "026b")
-    for i in range(p["n"]):
-        out, act = (p["directions"][i], p["numbers"][i]) if i < 32 else (0, 0)
-        bits += str(out) + format(act, "06b")
-    return bits_to_bytes(bits + "".join(str(p["allowed"] >> k & 1) for k in range(64)))
-
-
-def rec(kind, action, less):
-    return bytes([kind << 6 | action]) + less.to_bytes(5, "big")
-
-
-END = rec(3, 0, 0)
+    return rules.pack_property(meant(p), p["n"])
 
 
 def trace(*lines):
@@ -185,7 +123,8 @@ def property_bytes(p):
 
 def session_bytes(s):
     return (property_bytes(s["property"]) + word(s["count"]) + b"".join(map(word, s["held"])) + bytes(s["acts"])
-            + b"".join(map(word, s["masks"])) + bytes(s["broken"]) + word(s["latest"]) + bytes([s["blind"]]))
+            + b"".join(map(word, s["masks"])) + b"".join(v.to_bytes(BESIDE_BYTES, "big") for v in s[BESIDE])
+            + word(s["latest"]) + bytes([s["blind"]]))
 
 
 def add(name, args, check):
@@ -238,82 +177,32 @@ class Console:
         p = self.property()
         count, latest, blind = self.numbers("session")
         return {"property": p, "count": count, "held": self.numbers("held", 64), "acts": self.numbers("acts", 64),
-                "masks": self.numbers("masks", 65), "broken": self.numbers("broken", 65), "latest": latest, "blind": blind}
+                "masks": self.numbers("masks", 65), BESIDE: self.numbers(BESIDE, 65), "latest": latest, "blind": blind}
 
 
-# ---- 'Room' and 'Gaps': the session after a call that is taken, and its answer
-
-
-def moved(p, cut, out, act):
-    """A cut's matched lengths, and whether broken is among them, after one action more. Broken stays broken."""
-    sequence = [(bool(p["directions"][i]), p["numbers"][i]) for i in range(p["n"])]
-    lengths, broken = set(), cut[1]
-    for k in cut[0]:
-        if k == p["n"] and out and not p["allowed"] >> act & 1:
-            broken = 1
-            continue
-        acts = sequence[:k] + [(bool(out), act)]
-        lengths.add(max(m for m in range(min(p["n"], len(acts)) + 1) if acts[len(acts) - m:] == sequence[:m]))
-    return lengths, broken
-
-
-def cuts_of(s):
-    return [({k for k in range(64) if mask >> k & 1}, broken) for mask, broken in zip(s["masks"], s["broken"])][:s["count"] + 1]
-
-
-def with_cuts(s, cuts):
-    s["masks"] = [sum(1 << k for k in lengths) for lengths, _ in cuts] + [0] * (65 - len(cuts))
-    s["broken"] = [broken for _, broken in cuts] + [0] * (65 - len(cuts))
-    return s
+# ---- the session that stands, and the next one
 
 
 def standing(s):
-    lengths, broken = cuts_of(s)[-1]
-    return 3 if s["blind"] else 0 if not broken else 1 if lengths else 2
+    return rules.standing(watch_of(s))
 
 
-def blind_at(p, stamp):
-    return session(p, masks=(), latest=stamp, blind=1)
+def after(s, kind, action, stamp):
+    return record_of(s["property"], rules.after_record(meant(s["property"]), watch_of(s), kind, action, stamp))
 
 
-def taken_line(s, out, act, stamp):
-    """The session after a line."""
-    p = s["property"]
-    if s["blind"] and stamp <= s["latest"] + 2 * p["ub"]:
-        return blind_at(p, stamp)
-    if s["blind"]:
-        s = session(p)
-    held = list(zip(s["held"], s["acts"]))[:s["count"]]
-    closed = sum(stamp > at + 2 * p["ub"] for at, _ in held)
-    held, cuts = held[closed:], cuts_of(s)[closed:]
-    if out:
-        after = [moved(p, cuts[0], True, act)]
-        for (at, number), cut in zip(held, cuts[1:]):
-            last = moved(p, after[-1], False, number)
-            here = moved(p, cut, True, act) if stamp - at >= 2 * p["lb"] else (set(), 0)
-            after.append((last[0] | here[0], last[1] | here[1]))
-        cuts = after
-    else:
-        held, cuts = held + [(stamp, act)], cuts + [moved(p, cuts[-1], False, act)]
-    return with_cuts(session(p, len(held), [h[0] for h in held], [h[1] for h in held], latest=stamp), cuts)
-
-
-def run_after(s, run, out, act, stamp):
-    """The lines of the run after a line, None where they are not known."""
-    if s["blind"]:
-        run = [] if stamp > s["latest"] + 2 * s["property"]["ub"] else None
-    return None if run is None else run + [(bool(out), act, stamp)]
+def run_after(s, run, kind, action, stamp):
+    return rules.run_after(meant(s["property"]), watch_of(s), run, kind, action, stamp)
 
 
 def check_listed(c):
     """The session that stands against the orders of its run."""
     s = c.session
-    cuts = None if c.run is None or s["blind"] else listed_cuts(s["property"], c.run, s["count"])
+    cuts = None if c.run is None or s["blind"] else rules.listed_cuts(meant(s["property"]), c.run, s["count"])
     if cuts is not None:
         LISTED[0] += 1
-        same("the masks, by listing", s["masks"], cuts[0])
-        same("the broken flags, by listing", s["broken"], cuts[1])
-        same("the verdict, by listing", standing(s), listed_verdict(s["property"], c.run))
+        same("the cuts, by listing", watch_of(s).cuts, cuts)
+        same("the verdict, by listing", standing(s), rules.listed_verdict(meant(s["property"]), c.run))
 
 
 def remember(name):
@@ -362,11 +251,11 @@ def stepped(c, name, want, verdict, opened, step):
         same("verdict and number open of a refusal", [got_verdict, got_open], [0, 0])
         same("the session of a refusal", c.session, before)
         return
-    found, after = step(before)
-    for field in after:
-        same("the session's " + field, c.session[field], after[field])
+    found, then = step(before)
+    for field in then:
+        same("the session's " + field, c.session[field], then[field])
     same("the verdict", got_verdict, found)
-    same("the number open", got_open, after["count"])
+    same("the number open", got_open, then["count"])
     if verdict is not None:
         same("the verdict, by hand", got_verdict, verdict)
     if opened is not None:
@@ -375,23 +264,23 @@ def stepped(c, name, want, verdict, opened, step):
 
 
 def L(act, stamp, want=0, verdict=None, opened=None):
-    out, number = int(act[0] == "!"), int(act[1:])
+    kind, number = int(act[0] == "!"), int(act[1:])
 
     def check(c):
         def step(s):
-            c.run = run_after(s, c.run, out, number, stamp)
-            after = taken_line(s, out, number, stamp)
-            return standing(after), after
+            c.run = run_after(s, c.run, kind, number, stamp)
+            then = after(s, kind, number, stamp)
+            return standing(then), then
         stepped(c, "L", want, verdict, opened, step)
     count("L", want)
-    add("L", bytes([out, number]) + word(stamp), check)
+    add("L", bytes([kind, number]) + word(stamp), check)
 
 
 def G(stamp, want=0, verdict=None):
     def check(c):
         def step(s):
             c.run = None
-            return standing(s), blind_at(s["property"], stamp)
+            return standing(s), after(s, rules.GAP, 0, stamp)
         stepped(c, "G", want, verdict, 0, step)
     count("G", want)
     add("G", word(stamp), check)
@@ -417,10 +306,7 @@ def W(budget, bytes_, taken, stop, refusal=0):
         for i in range(taken):
             kind, action = bytes_[6 * i] >> 6, bytes_[6 * i] & 63
             stamp = s["latest"] + int.from_bytes(bytes_[6 * i + 1:6 * i + 6], "big")
-            if kind == 2:
-                c.run, s = None, blind_at(s["property"], stamp)
-            else:
-                c.run, s = run_after(s, c.run, kind == 1, action, stamp), taken_line(s, kind == 1, action, stamp)
+            c.run, s = run_after(s, c.run, kind, action, stamp), after(s, kind, action, stamp)
         for field in s:
             same("the session's " + field, c.session[field], s[field])
         check_listed(c)
@@ -734,9 +620,12 @@ def records_of_no_calls():
         ("blind, a longer one in a mask", session(two, masks=[HUGE, 8], latest=100, blind=1)),
         ("a held action above 63", session(two, **{**base, "acts": [255, 64]})),
         ("no matched length at all", session(two, **{**base, "masks": [0, 0, 0]})),
-        ("all broken", session(two, **base, broken=[1] * 65)),
+        ("all broken", session(two, **base, beside=[1] * 65)),
         ("held stamps closed at the latest", session(two, **{**base, "held": [0, 1]})),
     ]
+    if BESIDE_BYTES > 1:
+        fit += [("another bit beside a mask not in use", session(two, **base, beside=[0, 1, 0, 2, HUGE])),
+                ("blind, another bit beside a mask", session(two, masks=(), latest=100, blind=1, beside=[2, HUGE]))]
     for name, s in fit:
         title("a session record in range: " + name)
         T(s)
@@ -777,6 +666,10 @@ def records_of_no_calls():
         ("the highest bit of a mask", session(longest, masks=[2 ** 63], latest=100)),
         ("length 33 matched of 32", session(longest, masks=[2 ** 33], latest=100)),
     ]
+    if BESIDE_BYTES > 1:
+        unfit += [("another bit beside the first mask", session(two, **base, beside=[2])),
+                  ("another bit beside the last mask in use", session(two, **base, beside=[1, 0, 3])),
+                  ("the highest bit beside a mask", session(two, **base, beside=[0, 2 ** 63]))]
     for name, s in unfit:
         title("refusal 10: " + name)
         T(s)
@@ -1032,12 +925,19 @@ def check(text):
     return wrong == 0
 
 
+def program():
+    """target/bin/calls, run as the printing program is."""
+    listing = subprocess.run([os.path.join(TOP, "tools", "listing"), "--command"], stdout=subprocess.PIPE, check=True)
+    words = shlex.split(listing.stdout.decode())
+    return words[:-1] + [os.path.join(os.path.dirname(words[-1]), "calls")]
+
+
 def main():
     build()
     script = b"".join(call[1] for call in CALLS) + b"\0"
     stdin, stdout = (os.path.join(TOP, "crates/calls", part) for part in ("stdin", "stdout"))
     if sys.argv[1:2] == ["--write"]:
-        run = subprocess.run(sys.argv[2:], input=script, stdout=subprocess.PIPE, check=True)
+        run = subprocess.run(sys.argv[2:] or program(), input=script, stdout=subprocess.PIPE, check=True)
         if not check(run.stdout):
             sys.exit(1)
         for path, data in ((stdin, script), (stdout, run.stdout)):

@@ -1,6 +1,7 @@
 /*
  * The edges of the C call itself: slices that are empty or null, the shortest traces, one trace for
- * each verdict, and the longest count. Prints each number taken apart; edges.expected has the whole.
+ * each verdict, the longest count, and what the header says of gaps and of cutting a long log. Prints
+ * each number taken apart; edges.expected has the whole.
  */
 #include "anthegyra.h"
 #include "common.h"
@@ -29,6 +30,39 @@ static void show_outputs(const char *what, size_t n)
     show(what, property, property_len, trace, (n + 1) * RECORD);
 }
 
+static void use_property(const struct property *p) { property_len = pack_property(p, property); }
+
+/* The names that the header gives to the numbers. */
+static void show_names(void)
+{
+    printf("verdicts: %d %d %d %d\n", ANTHEGYRA_CLEAR, ANTHEGYRA_SUSPECT, ANTHEGYRA_CERTAIN,
+           ANTHEGYRA_BLIND);
+    printf("refusals: %d %d %d %d %d %d %d %d %d %d %d\n", ANTHEGYRA_TAKEN, ANTHEGYRA_LENGTH,
+           ANTHEGYRA_BOUNDS, ANTHEGYRA_ACTION, ANTHEGYRA_STAMP_LIMIT, ANTHEGYRA_STAMP_FALLS,
+           ANTHEGYRA_ROOM, ANTHEGYRA_MISSING, ANTHEGYRA_BROKEN, ANTHEGYRA_TOO_LONG, ANTHEGYRA_SESSION);
+}
+
+/* A gap mark closes a run, and a tail judged alone accuses where the whole log does not. */
+static void show_cuts(void)
+{
+    const struct property p = {2, {{OUTPUT, 5}, {OUTPUT, 6}}, 0, 10, 30};
+    const struct line whole[] = {
+        {{INPUT, 7}, 180}, {{OUTPUT, 5}, 200}, {{OUTPUT, 6}, 200}, {{OUTPUT, 2}, 201}};
+    const struct line marked[] = {
+        {{GAP, 0}, 180}, {{OUTPUT, 5}, 200}, {{OUTPUT, 6}, 200}, {{OUTPUT, 2}, 201}};
+    const struct line quiet[] = {
+        {{GAP, 0}, 201}, {{OUTPUT, 5}, 262}, {{OUTPUT, 6}, 262}, {{OUTPUT, 2}, 263}};
+    const struct line closed[] = {
+        {{OUTPUT, 5}, 200}, {{OUTPUT, 6}, 200}, {{OUTPUT, 2}, 201}, {{GAP, 0}, 300}};
+    use_property(&p);
+    show_lines("a log", whole, 4);
+    show_lines("its tail alone", whole + 1, 3);
+    show_lines("its tail behind a gap mark", marked, 4);
+    show_lines("a tail behind a gap mark and a quiet of more than 2 UB", quiet, 4);
+    show_lines("a certain run that a gap mark closes", closed, 4);
+    show_lines("the same up to the gap mark", closed, 3);
+}
+
 int main(void)
 {
     /* property B of document 01 */
@@ -37,7 +71,7 @@ int main(void)
     const struct line suspect[] = {{{INPUT, 0}, 100}, {{OUTPUT, 2}, 160}};
     const struct line certain[] = {{{INPUT, 0}, 100}, {{OUTPUT, 2}, 161}};
     const struct line blind[] = {{{INPUT, 0}, 100}, {{GAP, 0}, 200}, {{OUTPUT, 2}, 260}};
-    property_len = pack_property(&b, property);
+    use_property(&b);
 
     show("both null", NULL, 0, NULL, 0);
     show("both empty", property, 0, trace, 0);
@@ -52,5 +86,7 @@ int main(void)
     show_lines("blind", blind, 3);
     show_outputs("16,383 records", 16383);
     show_outputs("16,384 records", 16384);
+    show_cuts();
+    show_names();
     return 0;
 }

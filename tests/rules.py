@@ -1,0 +1,252 @@
+"""The rules (docs/RULES.md) read once more, for the Python tests: packed forms, explanations, verdicts, room, gaps, the listing.
+
+It shares nothing with the crates, the tools or the C tests. A verdict is found in two ways: from all explanations of a run,
+listed one by one, and by one step after the other over cuts, which long runs need."""
+import collections
+import math
+
+LIMIT = 2 ** 40 - 1
+HIGHEST_BOUND = 60_000_000
+MOST_ACTIONS = 32
+MOST_OPEN = 64
+INPUT, OUTPUT, GAP, END = range(4)
+CLEAR, SUSPECT, CERTAIN, BLIND = range(4)
+WORDS = ["clear", "suspect", "certain", "blind"]
+
+# An action is (is it an output, its number), a line (is it an output, its action's number, its stamp). `allowed` has bit k for
+# output k.
+Property = collections.namedtuple("Property", "sequence allowed lb ub")
+
+
+# ---- packed forms
+
+
+def bits_to_bytes(bits):
+    """Zero bits to a full byte."""
+    bits += "0" * (-len(bits) % 8)
+    return bytes(int(bits[i:i + 8], 2) for i in range(0, len(bits), 8))
+
+
+def pack_property(p, n=None):
+    """The length field says n where that is given, and places without an action are packed as ?0."""
+    n = len(p.sequence) if n is None else n
+    bits = format(n, "06b") + format(p.lb, "026b") + format(p.ub, "026b")
+    for out, act in (p.sequence + [(0, 0)] * n)[:n]:
+        bits += "01"[out] + format(act, "06b")
+    return bits_to_bytes(bits + "".join(str(p.allowed >> k & 1) for k in range(64)))
+
+
+def pack_record(kind, action, less):
+    return bytes([kind << 6 | action]) + less.to_bytes(5, "big")
+
+
+END_RECORD = pack_record(END, 0, 0)
+
+
+def read_property(data):
+    """Refusal, property and the number of its bytes."""
+    if not data:
+        return 7, None, 0
+    bits = "".join(format(byte, "08b") for byte in data[:71])
+    n = int(bits[:6], 2)
+    used = 122 + 7 * n
+    size = (used + 7) // 8
+    if len(data) < size:
+        return 7, None, 0
+    if "1" in bits[used:8 * size]:
+        return 8, None, 0
+    if not 1 <= n <= MOST_ACTIONS:
+        return 1, None, 0
+    lb, ub = int(bits[6:32], 2), int(bits[32:58], 2)
+    if not 1 <= lb <= ub <= HIGHEST_BOUND:
+        return 2, None, 0
+    sequence = [(bits[at] == "1", int(bits[at + 1:at + 7], 2)) for at in range(58, 58 + 7 * n, 7)]
+    allowed = int(bits[58 + 7 * n:used][::-1], 2)
+    return 0, Property(sequence, allowed, lb, ub), size
+
+
+def read_record(data, before):
+    """Refusal, kind, action and stamp of the record at the front."""
+    if len(data) < 6:
+        return 7, 0, 0, 0
+    kind, action, less = data[0] >> 6, data[0] & 63, int.from_bytes(data[1:6], "big")
+    if kind == GAP and action or kind == END and (action or less):
+        return 8, 0, 0, 0
+    if before + less > LIMIT:
+        return 4, 0, 0, 0
+    return 0, kind, action, before + less
+
+
+# ---- what could have happened at the node, listed
+
+MOST_LISTED = 5000
+
+
+def orders(p, ins, outs, moment, so_far):
+    """Orders with moments that never fall, each line's own in its range and as early as it can be."""
+    if not ins and not outs:
+        yield so_far
+    if ins:
+        t = ins[0][2]
+        m = t + p.lb if moment is None else max(moment, t + p.lb)
+        if m <= t + p.ub:
+            yield from orders(p, ins[1:], outs, m, so_far + [ins[0]])
+    if outs:
+        t = outs[0][2]
+        m = t - p.ub if moment is None else max(moment, t - p.ub)
+        if m <= t - p.lb:
+            yield from orders(p, ins, outs[1:], m, so_far + [outs[0]])
+
+
+def explanations(p, run, most=MOST_LISTED):
+    """All explanations of a run, or None where its lines have too many orders."""
+    ins = [line for line in run if not line[0]]
+    outs = [line for line in run if line[0]]
+    # a run of one channel has one order, however long it is
+    if min(len(ins), len(outs)) > 12 or math.comb(len(run), len(ins)) > most or len(run) > 400:
+        return None
+    return list(orders(p, ins, outs, None, []))
+
+
+def actions(order):
+    return [(bool(out), act) for out, act, _ in order]
+
+
+def outside(p, out, act):
+    return bool(out) and not p.allowed >> act & 1
+
+
+def breaks(p, order):
+    acts, n = actions(order), len(p.sequence)
+    return any(acts[i:i + n] == p.sequence and outside(p, *acts[i + n]) for i in range(len(acts) - n))
+
+
+def longest_beginning(p, acts):
+    """The length of the longest beginning of the sequence that ends these actions."""
+    return max(k for k in range(min(len(p.sequence), len(acts)) + 1) if acts[len(acts) - k:] == p.sequence[:k])
+
+
+def listed_verdict(p, run, most=MOST_LISTED):
+    """None where there are too many orders."""
+    listed = explanations(p, run, most)
+    if listed is None:
+        return None
+    seen = {breaks(p, order) for order in listed}
+    assert seen, "a run without an explanation"
+    return CLEAR if seen == {False} else CERTAIN if seen == {True} else SUSPECT
+
+
+def listed_cuts(p, run, count):
+    """The cuts before the first of the last `count` inputs and behind each, all outputs behind the cut, as in a Watch."""
+    listed = explanations(p, run)
+    if listed is None:
+        return None
+    cuts = [[set(), False] for _ in range(count + 1)]
+    for order in listed:
+        for cut in range(count, -1, -1):
+            ahead = count - cut
+            if ahead and order[len(order) - ahead][0]:
+                break
+            behind = order[:len(order) - ahead]
+            if breaks(p, behind):
+                cuts[cut][1] = True
+            else:
+                cuts[cut][0].add(longest_beginning(p, actions(behind)))
+    return [tuple(cut) for cut in cuts]
+
+
+# ---- room, gaps and one step over cuts
+
+# `held` has a stamp and an action's number for each open input; `cuts`, one before each of them and one after all, the set of
+# matched lengths and whether broken is among them.
+Watch = collections.namedtuple("Watch", "blind latest held cuts")
+
+FRESH = Watch(False, 0, [], [({0}, False)])
+
+
+def blind_at(stamp):
+    return Watch(True, stamp, [], [(set(), False)])
+
+
+def standing(w):
+    lengths, broken = w.cuts[-1]
+    return BLIND if w.blind else CLEAR if not broken else SUSPECT if lengths else CERTAIN
+
+
+def moved(p, cut, out, act):
+    """A cut after one action more. Broken stays broken."""
+    lengths, broken = set(), cut[1]
+    for k in cut[0]:
+        if k == len(p.sequence) and outside(p, out, act):
+            broken = True
+        else:
+            lengths.add(longest_beginning(p, p.sequence[:k] + [(bool(out), act)]))
+    return lengths, broken
+
+
+def begins_run(p, w, stamp):
+    return w.blind and stamp > w.latest + 2 * p.ub
+
+
+def after_line(p, w, out, act, stamp):
+    if begins_run(p, w, stamp):
+        w = FRESH
+    elif w.blind:
+        return blind_at(stamp)
+    closed = sum(stamp > at + 2 * p.ub for at, _ in w.held)
+    held, cuts = w.held[closed:], w.cuts[closed:]
+    if out:
+        after = [moved(p, cuts[0], True, act)]
+        for (at, number), cut in zip(held, cuts[1:]):
+            last = moved(p, after[-1], False, number)
+            here = moved(p, cut, True, act) if stamp - at >= 2 * p.lb else (set(), False)
+            after.append((last[0] | here[0], last[1] or here[1]))
+        cuts = after
+    else:
+        held, cuts = held + [(stamp, act)], cuts + [moved(p, cuts[-1], False, act)]
+    return Watch(False, stamp, held, cuts)
+
+
+def after_record(p, w, kind, action, stamp):
+    return blind_at(stamp) if kind == GAP else after_line(p, w, kind == OUTPUT, action, stamp)
+
+
+def run_after(p, w, run, kind, action, stamp):
+    """The lines of the run that is open after a record, None where there is none or they are not known."""
+    if kind == GAP or w.blind and not begins_run(p, w, stamp):
+        return None
+    if w.blind:
+        run = []
+    return None if run is None else run + [(kind == OUTPUT, action, stamp)]
+
+
+# ---- the listing
+
+
+def listing(data, most=MOST_LISTED):
+    """The lines that the printing program prints for these bytes, and how many verdicts were found in both ways."""
+    lines, both = ["line kind action stamp verdict open"], 0
+    refusal, p, at = read_property(data)
+    if refusal:
+        return lines + ["stop 0 %d" % refusal], both
+    w, run, taken = FRESH, [], 0
+    while True:
+        refusal, kind, action, stamp = read_record(data[at:at + 6], w.latest)
+        if not refusal and kind == END:
+            return lines + ["end %d" % taken], both
+        if not refusal:
+            before, w, run = w, after_record(p, w, kind, action, stamp), run_after(p, w, run, kind, action, stamp)
+            if len(w.held) > MOST_OPEN:
+                refusal, w = 6, before
+        if refusal:
+            return lines + ["stop %d %d" % (taken, refusal)], both
+        verdict = standing(w)
+        listed = None if run is None else listed_verdict(p, run, most)
+        if listed is not None:
+            both += 1
+            assert listed == verdict, "the two ways to a verdict differ"
+            held = sum(not out and at_ + 2 * p.ub >= stamp for out, _, at_ in run)
+            assert held == len(w.held), "the two ways to the number open differ"
+        taken += 1
+        at += 6
+        lines.append("%d %s %d %d %s %d" % (taken, "IOG"[kind], action, stamp, WORDS[verdict], len(w.held)))

@@ -1,0 +1,79 @@
+# What listing, pack and unpack share: the limits and kinds of the packed forms, messages, and writing that leaves nothing out.
+
+import os
+import select
+import signal
+
+LONGEST = 32
+HIGHEST_ACTION = 63
+HIGHEST_BOUND = 60_000_000
+HIGHEST_STAMP = 2**40 - 1
+INPUT, OUTPUT, GAP, END = range(4)
+RECORD = 6
+
+
+def say(text):
+    """A message on standard error. Where that cannot be written there is nobody to tell."""
+    try:
+        os.write(2, (text + '\n').encode('utf-8', 'replace'))
+    except OSError:
+        pass
+
+
+class Unwritten(Exception):
+    """Why standard output did not take everything."""
+
+    def __init__(self, error):
+        super().__init__(error.strerror)
+        self.reader_gone = isinstance(error, BrokenPipeError)
+
+
+def write_all(data):
+    """Writes every byte to standard output, or raises Unwritten. One write may take a part, as on a disk that is nearly full."""
+    left = memoryview(data)
+    while left:
+        try:
+            left = left[os.write(1, left):]
+        except BlockingIOError:
+            # the output does not block and is full: wait until it takes more
+            ready = select.poll()
+            ready.register(1, select.POLLOUT)
+            ready.poll()
+        except OSError as error:
+            raise Unwritten(error) from None
+
+
+def close_output():
+    """Some disks say only here that they are full."""
+    try:
+        os.close(1)
+    except OSError as error:
+        raise Unwritten(error) from None
+
+
+def run(name, main, words):
+    """The status of a tool's main function. From a terminal a whole pipeline is interrupted quietly."""
+    signal.signal(signal.SIGINT, signal.SIG_DFL)
+    try:
+        if not take_descriptors():
+            say(f'{name}: standard output is closed')
+            return 2
+        return main(words)
+    except Unwritten as lost:
+        say(f'{name}: not everything could be written: {lost}')
+        return 2
+
+
+def take_descriptors():
+    """True if standard output is open. The number of a closed descriptor goes to the next file opened, which must not then be
+    taken for input or for messages: the null device gets it."""
+    try:
+        os.fstat(1)
+    except OSError:
+        return False
+    for number in (0, 2):
+        try:
+            os.fstat(number)
+        except OSError:
+            os.set_inheritable(os.open(os.devnull, os.O_RDWR), True)
+    return True
