@@ -1,44 +1,63 @@
--- The demands of document 00, each as a theorem. Open this file first; the words it uses are defined in crates/meaning/specs.
--- Demands 2 and 3 are proved of the step over cuts (`grown`: the session over cuts that calls on a fresh one have made), and
--- then of the calls that run, whose promises cite that very step; demand 1 of those calls alone.
-use Prim.Native.Nat.{ℕ, zero, suc, _+_, _*_, _≤_, _<_}
+-- The demands of document 00, each as a theorem. Open this file first; the words it uses are defined in crates/meaning/specs (runs,
+-- explanations, verdicts, refusals, histories) and in crates/demands/specs (traces). `running p calls` is the session after any
+-- calls on a fresh one, `seen p calls` what those calls have come to by the rules.
+use Prim.Native.Nat.{ℕ, zero, suc, _+_, _*_, _/_, _%_, _≤_, _<_}
 use mathlib.Core.Path.{_≡_, refl, sym, _∙_, ap, subst}
-use mathlib.Core.Bool.{true, cond}
+use mathlib.Core.Bool.{Bool, true, false}
 use mathlib.Core.List.{List, [], _∷_, _++_}
-use lib.ListN.{length}
-use Rattle.meaning.specs.Words.{Property, Line}
-use Rattle.meaning.specs.Node.{Breaks, Verdict, VerdictFor}
-use Rattle.meaning.specs.Numbers.{property-refusal}
-use Rattle.meaning.specs.Calls.{Call, fresh, watched, AllTaken, kept, Standing, open-of, Answer, IsAnswer}
+use native.Mathlib.Omega.{arith}
+use lib.ListN.{length, drop, take}
+use lib.Dec.{ltb}
+use Rattle.meaning.specs.Words.{Action, Line}
+use Rattle.meaning.specs.Words
+use Rattle.meaning.specs.Node.{Breaks, Verdict, VerdictFor, verdict-number}
+use Rattle.meaning.specs.Numbers.{given, first-of, property-refusal}
+use Rattle.meaning.specs.Calls.{Mark, Call, fresh, watched, AllTaken, kept, Standing, open-of, Answer, IsAnswer, refusal}
+use Rattle.meaning.specs.Calls
 use Rattle.meaning.specs.Step.{lengths, grown, cuts-verdict, cuts-open, cuts-answer}
 use Rattle.meaning.specs.History.{Event, fed, all-lines, Premises, highest, Quiet, NoMark, BreaksAfter}
-use Rattle.meaning.proofs.Pairs.{Bounds}
-use Rattle.meaning.proofs.Matching.{state-matcher, matcher-reads}
-use Rattle.meaning.proofs.Lengths.{length-laws}
-use Rattle.meaning.proofs.Calls.{Agrees, fresh-agrees, after-agrees, standing-agrees, open-agrees, answer-agrees, answer-unique, standing-unique, few-cuts}
-use Rattle.meaning.proofs.Histories.{blind-until, history-verdict, taken-append, kept-same, kept-taken, fed-append}
-use Rattle.meaning.proofs.Cases.{good-bounds}
-use Rattle.meaning.specs.Calls.{refusal, unless-refused}
-use Rattle.meaning.specs.Calls
-use Rattle.meaning.specs.Step.{cuts-refusal, cuts-told, cuts-taken}
-use Rattle.meaning.proofs.Calls.{refusal-agrees}
+use Rattle.meaning.proofs.Sets.{Reading}
+use Rattle.meaning.proofs.Lengths.{lengths-reading}
+use Rattle.meaning.proofs.Calls.{grown-agrees, standing-agrees, open-agrees, answer-agrees, answer-unique, standing-unique, few-cuts}
+use Rattle.meaning.proofs.Histories.{kept-same, kept-taken}
 use Rattle.property.specs.Meant.{meant}
 use Rattle.property.specs.declared.Property as Data
+use Rattle.property_form.specs.Read.{property-read, zeros, too-short, pad-broken, read-refusal as property-read-refusal, taken as property-taken}
+use Rattle.property_form.specs.Read
+use Rattle.property_form.specs.Write
+use Rattle.property_form.specs.Form.{property-form}
+use Rattle.property_form.proofs.Answers.{taken-none}
+use Rattle.record_form.specs.Record.{Bytes, RecordAnswer, record-size, record-answer, bytes-read, broken, stamp-above, write-refusal}
+use Rattle.record_form.specs.Record
+use Rattle.record_form.specs.Trace.{Entry, kind-of, entry-call, trace-form}
+use Rattle.cuts.specs.Steps.{line-of}
+use Rattle.fields.specs.Fields.{field}
 use Rattle.session.specs.declared.Session.{Session}
-use Rattle.session.specs.declared.Stepped.{Stepped}
-use Rattle.session.specs.Record.{cuts-of, record-of, out-of-range}
-use Rattle.session.specs.Step.{answer-of, refusal-of, fresh-of, stepped-of, stepped-through}
-use Rattle.session.proofs.Grown.{grown-stands}
-use Rattle.session.proofs.Running.{running-record, running-answer}
-use Rattle.walk.specs.Walk.{walk-on}
-use Rattle.walk.proofs.Steps.{Exactly, walk-exactly}
--- Demand 2's packed half: "Packed properties and traces read back as written, and only one packing of each is taken."
+use Rattle.session.specs.Record.{out-of-range}
+use Rattle.session.specs.Step.{answer-of, refusal-of, fresh-of, stepped-of, no-session}
+use Rattle.session.proofs.Steps.{step-refused, answer-refusal, fresh-refused, fresh-taken}
+use Rattle.session.proofs.Running.{running-answer}
+use Rattle.kept.specs.Event.{call-of}
+use Rattle.kept.specs.declared.Event.the-variants as Kept
+use Rattle.walk.specs.Walk.{budget-of, walk-of}
+use Rattle.stretch.specs.Judge.{judge-of, one-number}
+use Rattle.stretch.proofs.Bounds.{judge-small}
+use Rattle.stretch.proofs.Judging.{one-short, one-long}
+use Rattle.demands.specs.Uses.{Use, session-through}
+use Rattle.demands.specs.Traces.{first-met}
+use Rattle.demands.proofs.Running.{running, seen, running-number, running-range}
+use Rattle.demands.proofs.Exact.{blind-kept, exact-kept, line-told, says-blind}
+use Rattle.demands.proofs.Walks.{WalkedOver, walk-over, walk-named}
+use Rattle.demands.proofs.Judging.{JudgeTaken, judge-taken, judge-first, judge-alone}
+use Rattle.demands.proofs.Uses.{uses-are-calls}
+-- "Packed properties and traces read back as written, and only one packing of each is taken."
 pub use Rattle.property_form.proofs.RoundTrip.{write-then-read as property-reads-back, read-then-write as property-writes-back, one-packing as property-one-packing}
 pub use Rattle.record_form.proofs.Trace.{trace-reads-back, trace-writes-back, trace-one-packing}
+pub use Rattle.demands.proofs.Written.{written-trace}
 
-module _ (p : Property) (good : property-refusal p ≡ 0) where
-  -- ---- Demand 2. "After each line taken while the watcher isn't blind, the verdict on the run is exact."
-  -- For any list of calls on a fresh session, refused ones too.
+-- ==== Demand 2, over the meaning. "After each line taken while the watcher isn't blind, the verdict on the run is exact."
+module _ (p : Words.Property) (good : property-refusal p ≡ 0) where
+  -- For any list of calls on a fresh session, refused ones too:
   pub record Demand-2 (calls : List Call) : Type 0 where
     -- the verdict that the step over cuts reads off stands, by the definition over every explanation of the open run,
     pub exact : Standing p (watched p fresh calls) (cuts-verdict p (lengths p) (grown p calls))
@@ -51,27 +70,19 @@ module _ (p : Property) (good : property-refusal p ≡ 0) where
     pub answer : (c : Call) → IsAnswer p (watched p fresh calls) c (cuts-answer p (lengths p) (grown p calls) c)
     pub one-answer : (c : Call) (a : Answer) → IsAnswer p (watched p fresh calls) c a → a ≡ cuts-answer p (lengths p) (grown p calls) c
 
-  agrees : (calls : List Call) → Agrees p (good-bounds p good) (state-matcher p) (lengths p) (length-laws p) (matcher-reads p) (watched p fresh calls) (grown p calls)
-  agrees calls =
-      after-agrees p (good-bounds p good) (state-matcher p) (lengths p) (length-laws p) (matcher-reads p)
-      (fresh-agrees p (good-bounds p good) (state-matcher p) (lengths p) (length-laws p) (matcher-reads p)) calls
+  abbrev R : Reading p (Breaks p)
+  R = lengths-reading p good
 
   pub demand-2 : (calls : List Call) → Demand-2 calls
   demand-2 calls =
-      let b : Bounds p = good-bounds p good in
+      let a = grown-agrees R calls in
       record {
-        exact = standing-agrees p b (state-matcher p) (lengths p) (length-laws p) (matcher-reads p) (agrees calls);
-        only = λ v h.
-            standing-unique p b (state-matcher p) (lengths p) (length-laws p) (matcher-reads p) (agrees calls) v
-            (cuts-verdict p (lengths p) (grown p calls)) h
-            (standing-agrees p b (state-matcher p) (lengths p) (length-laws p) (matcher-reads p) (agrees calls));
-        open-count = open-agrees p b (state-matcher p) (lengths p) (length-laws p) (matcher-reads p) (agrees calls);
-        few = few-cuts p b (state-matcher p) (lengths p) (length-laws p) (matcher-reads p) (agrees calls);
-        answer = answer-agrees p b (state-matcher p) (lengths p) (length-laws p) (matcher-reads p) (agrees calls);
-        one-answer = λ c a h.
-            answer-unique p b (state-matcher p) (lengths p) (length-laws p) (matcher-reads p) (agrees calls) c a
-            (cuts-answer p (lengths p) (grown p calls) c) h
-            (answer-agrees p b (state-matcher p) (lengths p) (length-laws p) (matcher-reads p) (agrees calls) c);
+        exact = standing-agrees R a;
+        only = λ v h. standing-unique R a v (cuts-verdict p (lengths p) (grown p calls)) h (standing-agrees R a);
+        open-count = open-agrees R a;
+        few = few-cuts R a;
+        answer = answer-agrees R a;
+        one-answer = λ c x h. answer-unique R a c x (cuts-answer p (lengths p) (grown p calls) c) h (answer-agrees R a c);
       }
 
   -- "What is refused alters neither the session ..": the calls that are taken, alone, come to the same.
@@ -79,53 +90,30 @@ module _ (p : Property) (good : property-refusal p ≡ 0) where
       → AllTaken p fresh (kept p fresh calls) × (watched p fresh (kept p fresh calls) ≡ watched p fresh calls)
   refused-alter-nothing calls = (kept-taken p fresh calls, kept-same p fresh calls)
 
-  -- ---- Demand 3. A full history: earlier events, a gap mark, events up to a first line that comes more than 2·UB after
-  -- everything taken or marked, and later ones up to the next mark. Lost lines stand where they were lost.
-  module _ (earlier : List Event) (g : ℕ) (between : List Event) where
-    abbrev pub to-mark : List Call
-    to-mark = fed earlier ++ Call.mark g ∷ []
-
+  -- ==== Demand 3, over the meaning. Any calls, of which those taken are what the watcher was fed of a full history: earlier events,
+  -- a gap mark, events up to a first line that comes more than 2·UB after everything taken or marked, and later ones up to the next
+  -- mark. Lost lines stand where they were lost, and "the caller may mark a gap" for a refused line.
+  module _ (calls : List Call) (earlier : List Event) (g : Mark) (between : List Event) (quiet : Quiet p (highest 0 (fed earlier ++ Call.mark g ∷ [])) (fed between)) where
     -- "Then after the mark, until a line comes more than twice the upper bound after everything taken or marked, the watcher says blind."
-    pub demand-3-blind : AllTaken p fresh (fed earlier ++ Call.mark g ∷ fed between) → Quiet p (highest 0 to-mark) (fed between)
-        → cuts-verdict p (lengths p) (grown p (fed earlier ++ Call.mark g ∷ fed between)) ≡ Verdict.blind
-    demand-3-blind takes quiet =
-        subst (λ t. cond t (v ≡ Verdict.blind) (VerdictIs v)) (blind-until p (fed earlier) (fed between) g takes quiet) (demand-2 (fed earlier ++ Call.mark g ∷ fed between) .exact)
-      where
-        v : Verdict
-        v = cuts-verdict p (lengths p) (grown p (fed earlier ++ Call.mark g ∷ fed between))
-
-        VerdictIs : Verdict → Type 0
-        VerdictIs u = VerdictFor (Breaks p) p (watched p fresh (fed earlier ++ Call.mark g ∷ fed between) .run) u
+    pub demand-3-blind : kept p fresh calls ≡ fed (earlier ++ Event.mark g ∷ between) → watched p fresh calls .is-blind ≡ true
+    demand-3-blind e = blind-kept p good calls earlier g between quiet e
 
     -- "From that line to the next mark, whatever was lost, its verdict after each line taken is the exact one over the full history
-    -- up to the line just taken, lost lines counted, for breaches whose sequence begins, at the node, with that first line or with one logged after it."
-    pub demand-3 : (first : Line) (later : List Event)
+    -- up to the line just taken, lost lines counted, for breaches whose sequence begins, at the node, with that first line or with
+    -- one logged after it."
+    pub demand-3 : (first : Line) (later : List Event) → kept p fresh calls ≡ fed ((earlier ++ Event.mark g ∷ between) ++ Event.line first ∷ later)
         → Premises ((earlier ++ Event.mark g ∷ between) ++ Event.line first ∷ later)
-        → AllTaken p fresh (fed ((earlier ++ Event.mark g ∷ between) ++ Event.line first ∷ later))
-        → Quiet p (highest 0 to-mark) (fed between)
         → highest 0 (fed (earlier ++ Event.mark g ∷ between)) + 2 * p .UB < first .stamp
         → NoMark (fed later)
         → VerdictFor (BreaksAfter p (all-lines (earlier ++ Event.mark g ∷ between))) p
         (all-lines ((earlier ++ Event.mark g ∷ between) ++ Event.line first ∷ later))
-        (cuts-verdict p (lengths p) (grown p (fed ((earlier ++ Event.mark g ∷ between) ++ Event.line first ∷ later))))
-    unfolding fed
-    demand-3 first later premises takes quiet far no-mark =
-        let before : List Event = earlier ++ Event.mark g ∷ between in
-        let e : fed before ≡ fed earlier ++ Call.mark g ∷ fed between = fed-append earlier (Event.mark g ∷ between) in
-        let taken-before : AllTaken p fresh (fed before) =
-        taken-append p fresh (fed before) (Call.line first ∷ fed later) (subst (AllTaken p fresh) (fed-append before (Event.line first ∷ later)) takes) .0 in
-        let was-blind : watched p fresh (fed before) .is-blind ≡ true =
-        ap (λ (ks : List Call). watched p fresh ks .is-blind) e ∙ blind-until p (fed earlier) (fed between) g (subst (AllTaken p fresh) e taken-before) quiet in
-        history-verdict p (good-bounds p good) before later first premises takes was-blind far no-mark
-        (cuts-verdict p (lengths p) (grown p (fed (before ++ Event.line first ∷ later))))
-        (demand-2 (fed (before ++ Event.line first ∷ later)) .exact)
+        (cuts-verdict p (lengths p) (grown p calls))
+    demand-3 first later e premises far no-mark =
+        exact-kept p good calls earlier g between quiet first later e premises far no-mark (cuts-verdict p (lengths p) (grown p calls)) (demand-2 calls .exact)
 
--- ---- The calls that run
-
--- ---- Demand 1. ".. each call ends with its answer or a numbered refusal, given exactly when the rules say so. What is refused
--- alters neither the session nor any buffer; lines taken earlier in the same call stay taken."
--- That each call ends is proved of every function; what it answers is its promise (docs/PROMISES.md). Of the session's calls,
--- on any record, also one that no calls made:
+-- ==== Demand 1, of the calls on a session. ".. each call ends with its answer or a numbered refusal, given exactly when the rules
+-- say so. What is refused alters neither the session nor any buffer; lines taken earlier in the same call stay taken."
+-- That each call ends is proved of every function. Of line and mark, on any record, also one that no calls made:
 pub record Demand-1 (s : Session) (c : Call) : Type 0 where
   -- the number is the first of the table that holds: 10, then those of the step;
   pub number : stepped-of s c .answer .refusal ≡ refusal-of s c
@@ -133,81 +121,118 @@ pub record Demand-1 (s : Session) (c : Call) : Type 0 where
   pub refused : (n : ℕ) → refusal-of s c ≡ suc n → stepped-of s c ≡ record { answer = answer-of (Calls.refused (suc n)); session = s }
 
 pub demand-1 : (s : Session) (c : Call) → Demand-1 s c
-unfolding stepped-of
-demand-1 s c = record { number = number-by (refusal-of s c); refused = λ n e. ap made e }
-  where
-    made : ℕ → Stepped
-    made k =
-        unless-refused k
-        (record {
-          answer = answer-of (cuts-told (meant (s .property)) (lengths (meant (s .property))) (cuts-of s) c);
-          session = record-of (s .property) (cuts-taken (meant (s .property)) (lengths (meant (s .property))) (cuts-of s) c);
-        })
-        (record { answer = answer-of (Calls.refused k); session = s })
+demand-1 s c = record { number = answer-refusal s c; refused = λ n e. step-refused s c (suc n) e (λ z. omega arith) }
 
-    told-zero : (d : Call) → cuts-told (meant (s .property)) (lengths (meant (s .property))) (cuts-of s) d .refusal ≡ 0
-    told-zero (Call.line l) = refl
-    told-zero (Call.mark g) = refl
-
-    number-by : (k : ℕ) → made k .answer .refusal ≡ k
-    number-by zero = told-zero c
-    number-by (suc k) = refl
-
--- "lines taken earlier in the same call stay taken": a walk's session is that of exactly as many single steps as it took, each
--- of them taken, at most the budget.
-pub demand-1-walk : (budget : ℕ) (s : Session) (bytes : List ℕ) → Exactly budget s (walk-on budget s bytes)
-demand-1-walk = walk-exactly
-
+-- ==== The calls that run, from a fresh session, for all call orders and all numbers
 module _ (p : Data.Property) (good : property-refusal (meant p) ≡ 0) where
-  -- the session after calls on a fresh one
-  abbrev pub running : List Call → Session
-  running calls = stepped-through (fresh-of p .session) calls
-
-  -- From a fresh session, for all call orders and all numbers, the refusal is that of the table over the history,
-  pub running-1 : (calls : List Call) (c : Call) → stepped-of (running calls) c .answer .refusal ≡ refusal (meant p) (watched (meant p) fresh calls) c
-  running-1 calls c =
-      ap (λ a. a .refusal) (running-answer p good calls c)
-      ∙ number-is (cuts-refusal (meant p) (lengths (meant p)) (grown (meant p) calls) c) c
-      ∙ refusal-agrees (meant p) (good-bounds (meant p) good) (state-matcher (meant p)) (lengths (meant p)) (length-laws (meant p)) (matcher-reads (meant p)) (agrees (meant p) good calls) c
-    where
-      number-is : (k : ℕ) (d : Call)
-          → unless-refused k (cuts-told (meant p) (lengths (meant p)) (grown (meant p) calls) d) (Calls.refused k) .refusal ≡ k
-      number-is zero (Call.line l) = refl
-      number-is zero (Call.mark g) = refl
-      number-is (suc k) d = refl
+  -- the refusal is that of the table over the history,
+  pub running-1 : (calls : List Call) (c : Call) → stepped-of (running p good calls) c .answer .refusal ≡ refusal (meant p) (seen p good calls) c
+  running-1 = running-number p good
 
   -- the answer is the one of the rules, verdict and number open included, and no other is (demand 2),
   pub running-2 : (calls : List Call) (c : Call)
-      → (a : Answer) × IsAnswer (meant p) (watched (meant p) fresh calls) c a × (stepped-of (running calls) c .answer ≡ answer-of a)
-  running-2 calls c =
-      (cuts-answer (meant p) (lengths (meant p)) (grown (meant p) calls) c, demand-2 (meant p) good calls .answer c, running-answer p good calls c)
+      → (a : Answer) × IsAnswer (meant p) (seen p good calls) c a × (stepped-of (running p good calls) c .answer ≡ answer-of a)
+  running-2 calls c = (cuts-answer (meant p) (lengths (meant p)) (grown (meant p) calls) c, demand-2 (meant p) good calls .answer c, running-answer p good calls c)
 
-  -- and the session stands for the one over cuts, so that demands 2 and 3 speak of it.
-  pub running-stands : (calls : List Call) → cuts-of (running calls) ≡ grown (meant p) calls
-  running-stands calls = ap cuts-of (running-record p good calls) ∙ grown-stands p good calls
+  -- and demand 3 holds of the number that the last line's call answers, where that line was taken: blind until the boundary,
+  module _ (calls : List Call) (l : Line) (taken : refusal (meant p) (seen p good calls) (Call.line l) ≡ 0) (earlier : List Event) (g : Mark) (between : List Event)
+      (quiet : Quiet (meant p) (highest 0 (fed earlier ++ Call.mark g ∷ [])) (fed between)) where
+    pub running-3-blind : kept (meant p) fresh (calls ++ Call.line l ∷ []) ≡ fed (earlier ++ Event.mark g ∷ between)
+        → stepped-of (running p good calls) (Call.line l) .answer .verdict ≡ 3
+    running-3-blind e =
+        let t = line-told p good calls l taken in
+        t .2 ∙ says-blind p good (seen p good (calls ++ Call.line l ∷ [])) (t .0) (blind-kept (meant p) good (calls ++ Call.line l ∷ []) earlier g between quiet e) (t .1)
 
-  -- Demand 3 of the running session: blind until the boundary,
-  pub running-3-blind : (earlier : List Event) (g : ℕ) (between : List Event)
-      → AllTaken (meant p) fresh (fed earlier ++ Call.mark g ∷ fed between) → Quiet (meant p) (highest 0 (fed earlier ++ Call.mark g ∷ [])) (fed between)
-      → cuts-verdict (meant p) (lengths (meant p)) (cuts-of (running (fed earlier ++ Call.mark g ∷ fed between))) ≡ Verdict.blind
-  running-3-blind earlier g between takes quiet =
-      ap (cuts-verdict (meant p) (lengths (meant p))) (running-stands (fed earlier ++ Call.mark g ∷ fed between)) ∙ demand-3-blind (meant p) good earlier g between takes quiet
+    -- and exact over the full history from it to the next mark.
+    pub running-3 : (first : Line) (later : List Event)
+        → kept (meant p) fresh (calls ++ Call.line l ∷ []) ≡ fed ((earlier ++ Event.mark g ∷ between) ++ Event.line first ∷ later)
+        → Premises ((earlier ++ Event.mark g ∷ between) ++ Event.line first ∷ later)
+        → highest 0 (fed (earlier ++ Event.mark g ∷ between)) + 2 * meant p .UB < first .stamp
+        → NoMark (fed later)
+        → (v : Verdict)
+        × VerdictFor (BreaksAfter (meant p) (all-lines (earlier ++ Event.mark g ∷ between))) (meant p)
+        (all-lines ((earlier ++ Event.mark g ∷ between) ++ Event.line first ∷ later)) v
+        × (stepped-of (running p good calls) (Call.line l) .answer .verdict ≡ verdict-number v)
+    running-3 first later e premises far no-mark =
+        let t = line-told p good calls l taken in
+        (t .0, exact-kept (meant p) good (calls ++ Call.line l ∷ []) earlier g between quiet first later e premises far no-mark (t .0) (t .1), t .2)
 
-  -- and exact over the full history from it to the next mark.
-  pub running-3 : (earlier : List Event) (g : ℕ) (between : List Event) (first : Line) (later : List Event)
-      → Premises ((earlier ++ Event.mark g ∷ between) ++ Event.line first ∷ later)
-      → AllTaken (meant p) fresh (fed ((earlier ++ Event.mark g ∷ between) ++ Event.line first ∷ later))
-      → Quiet (meant p) (highest 0 (fed earlier ++ Call.mark g ∷ [])) (fed between)
-      → highest 0 (fed (earlier ++ Event.mark g ∷ between)) + 2 * meant p .UB < first .stamp
-      → NoMark (fed later)
-      → VerdictFor (BreaksAfter (meant p) (all-lines (earlier ++ Event.mark g ∷ between))) (meant p)
-      (all-lines ((earlier ++ Event.mark g ∷ between) ++ Event.line first ∷ later))
-      (cuts-verdict (meant p) (lengths (meant p)) (cuts-of (running (fed ((earlier ++ Event.mark g ∷ between) ++ Event.line first ∷ later)))))
-  running-3 earlier g between first later premises takes quiet far no-mark =
-      subst
-      (λ c.
-      VerdictFor (BreaksAfter (meant p) (all-lines (earlier ++ Event.mark g ∷ between))) (meant p)
-      (all-lines ((earlier ++ Event.mark g ∷ between) ++ Event.line first ∷ later))
-      (cuts-verdict (meant p) (lengths (meant p)) c))
-      (sym (running-stands (fed ((earlier ++ Event.mark g ∷ between) ++ Event.line first ∷ later))))
-      (demand-3 (meant p) good earlier g between first later premises takes quiet far no-mark)
+  -- Lines, marks and walks in any mixture: the session is that of single calls in a row, so that all of this speaks of it,
+  pub any-uses : (uses : List Use) → (calls : List Call) × (session-through (running p good []) uses ≡ running p good calls)
+  any-uses uses = uses-are-calls p good [] uses
+
+  -- and a walk takes the trace's own records, in order, as many as it says it took, each as a single call. It is refused as the first
+  -- record not taken is, and "lines taken earlier in the same call stay taken".
+  pub running-walk : (calls : List Call) (bytes : List ℕ) (budget : ℕ)
+      → WalkedOver (running p good calls) bytes (budget-of budget) (walk-of (running p good calls) bytes budget)
+  running-walk calls bytes budget = walk-over (running p good calls) bytes budget (running-range p good calls)
+
+-- ==== The walk on any record, also one that no calls made: refusal 10 first, whatever the budget, and otherwise as above
+pub record Demand-1-walk (s : Session) (bytes : List ℕ) (budget : ℕ) : Type 0 where
+  pub named : out-of-range s ≡ true → walk-of s bytes budget ≡ record { taken = 0; stop = 2; refusal = 10; read = 0; session = s }
+  pub walked : out-of-range s ≡ false → WalkedOver s bytes (budget-of budget) (walk-of s bytes budget)
+
+pub demand-1-walk : (s : Session) (bytes : List ℕ) (budget : ℕ) → Demand-1-walk s bytes budget
+demand-1-walk s bytes budget = record { named = walk-named s bytes budget; walked = walk-over s bytes budget }
+
+-- ==== What a record is: "0 input, 1 output, 2 gap, 3 end", each the call of its kind; and so are the arguments of the calls
+pub record Kinds : Type 0 where
+  pub input : (k t : ℕ) → (kind-of (Entry.input k t) ≡ 0) × (entry-call (Entry.input k t) ≡ Call.line (record { action = Action.input k; stamp = t }))
+  pub output : (k t : ℕ) → (kind-of (Entry.output k t) ≡ 1) × (entry-call (Entry.output k t) ≡ Call.line (record { action = Action.output k; stamp = t }))
+  pub gap : (t : ℕ) → (kind-of (Entry.gap t) ≡ 2) × (entry-call (Entry.gap t) ≡ Call.mark (record { stamp = t }))
+  pub end : Record.end ≡ 3
+  pub line-input : (k t : ℕ) → line-of false k t ≡ record { action = Action.input k; stamp = t }
+  pub line-output : (k t : ℕ) → line-of true k t ≡ record { action = Action.output k; stamp = t }
+
+pub kinds : Kinds
+kinds =
+    record {
+      input = λ k t. (refl, refl);
+      output = λ k t. (refl, refl);
+      gap = λ t. (refl, refl);
+      end = refl;
+      line-input = λ k t. refl;
+      line-output = λ k t. refl;
+    }
+
+-- `kept::step` is the step by value on the session lent: its promise is `stepped-of .. (call-of event)`, of which demand 1 speaks.
+pub demand-1-kept : (output : Bool) (action stamp : ℕ)
+    → (call-of (Kept.Line output action stamp) ≡ Call.line (line-of output action stamp)) × (call-of (Kept.Mark stamp) ≡ Call.mark (record { stamp = stamp }))
+demand-1-kept output action stamp = (refl, refl)
+
+-- ==== The judge. What it takes is one property's whole packing and one trace's, the count is the number of its records, each of them
+-- is taken from a fresh session, and the verdict's number is that of the one verdict that stands after them (`JudgeTaken`).
+-- Otherwise the number is the first refusal met, in the order of document 01, and stands alone.
+pub record Demand-judge (property trace : List ℕ) : Type 0 where
+  pub taken : Bytes property → Bytes trace → judge-of property trace .refusal ≡ 0 → JudgeTaken property trace (judge-of property trace)
+  pub first : judge-of property trace .refusal
+      ≡ first-of (property-read-refusal property)
+      (first-of (given 8 (ltb (property-taken property) (length property))) (first-met (length trace) (meant (property-read property)) fresh trace))
+  pub alone : (n : ℕ) → judge-of property trace .refusal ≡ suc n → judge-of property trace ≡ record { refusal = suc n; verdict = 0; count = 0 }
+
+pub demand-judge : (property trace : List ℕ) → Demand-judge property trace
+demand-judge property trace = record { taken = judge-taken property trace; first = judge-first property trace; alone = judge-alone property trace }
+
+-- The C call's one number is taken apart into the judge's three: "a longer trace is refusal 9 here".
+pub record Demand-C (property trace : List ℕ) (number : ℕ) : Type 0 where
+  pub refusal : judge-of property trace .count ≤ 16_383 → number / 65_536 ≡ judge-of property trace .refusal
+  pub verdict : judge-of property trace .count ≤ 16_383 → number / 16_384 % 4 ≡ judge-of property trace .verdict
+  pub count : judge-of property trace .count ≤ 16_383 → number % 16_384 ≡ judge-of property trace .count
+  pub longer : 16_383 < judge-of property trace .count → number ≡ 9 * 65_536
+
+pub demand-C : (property trace : List ℕ) → Demand-C property trace (one-number (judge-of property trace))
+demand-C property trace =
+    let j = judge-of property trace in
+    let small = judge-small property trace in
+    record {
+      refusal = λ h. omega (arith, sym (one-short j h), small .verdict-small);
+      verdict = λ h. omega (arith, sym (one-short j h), small .verdict-small);
+      count = λ h. omega (arith, sym (one-short j h), small .verdict-small);
+      longer = λ h. sym (one-long j h);
+    }
+
+
+-- "only one packing of each is taken": two traces that the judge takes with the same records are the same bytes.
+pub judge-one-packing : {property trace other : List ℕ} → (a : JudgeTaken property trace (judge-of property trace))
+    → (b : JudgeTaken property other (judge-of property other)) → a .entries ≡ b .entries → trace ≡ other
+judge-one-packing a b e = a .trace-packed ∙ ap (trace-form 0) e ∙ sym (b .trace-packed)

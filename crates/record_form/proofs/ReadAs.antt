@@ -1,15 +1,19 @@
 -- What a record stands for: the reader's case tells it, and so do the entries of a trace; what is refused has a number.
-use Prim.Native.Nat.{ℕ, zero, suc, _≤_, _<_}
-use mathlib.Core.Path.{_≡_, refl, sym, _∙_, ap}
+use Prim.Native.Nat.{ℕ, zero, suc, _+_, _≤_, _<_}
+use mathlib.Core.Path.{_≡_, refl, sym, _∙_, ap, subst}
+use mathlib.Core.Bool.{Bool, true, false}
 use mathlib.Core.List.{List}
 use native.Mathlib.Omega.{arith}
 use lib.ListN.{length}
+use lib.Dec.{ltb}
+use borrow.Author.Tests.{ltb-true, ltb-false, eqb-true, not-false}
+use Rattle.fields.specs.Fields.{field}
 use Rattle.record_form.specs.declared.RecordRead.{RecordRead}
 use Rattle.record_form.specs.Record
-use Rattle.record_form.specs.Record.{RecordAnswer, numbers, case-by, taken, refused, record-size, record-answer, IsRead}
+use Rattle.record_form.specs.Record.{IsRead, RecordAnswer, case-by, case-of, numbers, read-refusal, record-answer, record-size, refused, taken}
 use Rattle.record_form.specs.Trace.{Entry, entry-call, kind-of, action-of, stamp-of}
 use Rattle.record_form.specs.ReadAs.{ReadAs, case-as, read-as}
-use Rattle.record_form.proofs.Reading.{is-taken, refusal-of, short}
+use Rattle.record_form.proofs.Reading.{is-taken, read-fields, read-short, refusal-of, short, taken-answer, unbroken}
 
 -- What the reader answered is what the record stands for; with the answer's case put in, each by `refl`.
 pub read-case : {s : List ℕ} {before : ℕ} {r : RecordRead} → IsRead s before r → read-as (record-answer s before) ≡ case-as r
@@ -59,3 +63,25 @@ refused-given a n e = go (a .refusal) (a .kind) e
     go zero (suc (suc zero)) q = let z : _≡_ {A = ℕ} 0 1 = cc q in absurd (omega arith)
     go zero (suc (suc (suc k))) q = let z : _≡_ {A = ℕ} 0 1 = cc q in absurd (omega arith)
     go (suc m) k q = let z : suc m ≡ n = cc q in ((λ y. omega arith), z)
+
+-- ---- the reader's answer to any bytes
+
+pub always-read : (s : List ℕ) (before : ℕ) → IsRead s before (case-of (record-answer s before))
+always-read s before = go (ltb (length s) record-size) (ltb-true (length s) record-size) (ltb-false (length s) record-size)
+  where
+    known : {r : RecordRead} → IsRead s before r → IsRead s before (case-of (record-answer s before))
+    known h = subst (IsRead s before) (h .answer) h
+
+    go : (b : Bool) → (b ≡ true → length s < record-size) → (b ≡ false → record-size ≤ length s) → IsRead s before (case-of (record-answer s before))
+    go true t f = known (read-short s before (t refl))
+    go false t f = known (read-fields s before (field s 0 2) (field s 2 6) (field s 8 40) _ (f refl) refl refl refl refl)
+
+-- an end record's stamp is the one before
+pub end-stamp : (s : List ℕ) (before action stamp : ℕ) → record-answer s before ≡ taken Record.end action stamp → stamp ≡ before
+end-stamp s before action stamp e =
+    let none : read-refusal s before ≡ 0 = sym (refusal-of s before) ∙ ap (λ (a : RecordAnswer). a .refusal) e in
+    let r = is-taken s before none in
+    let same = sym (taken-answer s before none) ∙ e in
+    let kind : field s 0 2 ≡ 3 = ap (λ (a : RecordAnswer). a .kind) same in
+    let less : field s 8 40 ≡ 0 = eqb-true (field s 8 40) 0 (not-false _ (unbroken (field s 0 2) (field s 2 6) _ (r .sound) .2 kind)) in
+    sym (ap (λ (a : RecordAnswer). a .stamp) same) ∙ let z : before + field s 8 40 ≡ before = omega arith in z

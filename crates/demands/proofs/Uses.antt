@@ -1,0 +1,35 @@
+-- Lines, marks and walks in any mixture are single calls in a row.
+use Prim.Native.Nat.{ℕ}
+use mathlib.Core.Path.{_≡_, refl, sym, _∙_, ap, subst}
+use mathlib.Core.List.{List, [], _∷_, _++_, append-nil}
+use Rattle.meaning.specs.Numbers.{property-refusal}
+use Rattle.meaning.specs.Calls.{Call}
+use Rattle.property.specs.Meant.{meant}
+use Rattle.property.specs.declared.Property.{Property}
+use Rattle.session.specs.declared.Session.{Session}
+use Rattle.session.specs.Step.{fresh-of, stepped-of, stepped-through}
+use Rattle.walk.specs.Walk.{walk-of}
+use Rattle.demands.specs.Traces.{calls-of}
+use Rattle.demands.specs.Uses.{Use, session-after, session-through}
+use Rattle.demands.proofs.Running.{running, running-range, running-next}
+use Rattle.demands.proofs.Walks.{walk-over}
+
+through-append : (s : Session) (a b : List Call) → stepped-through s (a ++ b) ≡ stepped-through (stepped-through s a) b
+unfolding stepped-through
+through-append s [] b = refl
+through-append s (c ∷ a) b = through-append (stepped-of s c .session) a b
+
+module _ (p : Property) (good : property-refusal (meant p) ≡ 0) where
+  one-use : (calls : List Call) (u : Use) → (more : List Call) × (session-after (running p good calls) u ≡ running p good (calls ++ more))
+  one-use calls (Use.call c) = (c ∷ [], sym (running-next p good calls c))
+  one-use calls (Use.walk bytes budget) =
+      let w = walk-over (running p good calls) bytes budget (running-range p good calls) in
+      (calls-of (w .entries), w .session ∙ sym (through-append (fresh-of p .session) calls (calls-of (w .entries))))
+
+  pub uses-are-calls : (calls : List Call) (uses : List Use) → (all : List Call) × (session-through (running p good calls) uses ≡ running p good all)
+  unfolding session-through
+  uses-are-calls calls [] = (calls, refl)
+  uses-are-calls calls (u ∷ uses) =
+      let one = one-use calls u in
+      let rest = uses-are-calls (calls ++ one .0) uses in
+      (rest .0, ap (λ (s : Session). session-through s uses) (one .1) ∙ rest .1)

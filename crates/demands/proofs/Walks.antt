@@ -1,0 +1,174 @@
+-- A walk takes the trace's own records, in order, each as a single call; and how it stops.
+use Prim.Native.Nat.{ℕ, zero, suc, _+_, _-_, _*_, _≤_}
+use mathlib.Core.Path.{_≡_, refl, sym, _∙_, ap, subst}
+use mathlib.Core.Logic.{_⊎_, inl, inr}
+use mathlib.Core.Bool.{Bool, true, false, cond}
+use mathlib.Core.List.{List, [], _∷_}
+use native.Mathlib.Omega.{arith}
+use lib.ListN.{length, drop}
+use Rattle.meaning.specs.Calls.{Call, beyond}
+use Rattle.meaning.specs.Matcher.{Lengths}
+use Rattle.meaning.specs.Step.{Cuts}
+use Rattle.meaning.specs.History.{stamp-of as call-stamp}
+use Rattle.property.specs.Meant.{meant}
+use Rattle.property.specs.declared.Property.{Property}
+use Rattle.record_form.specs.Record.{record-size, record-answer, case-of, IsRead}
+use Rattle.record_form.specs.Record
+use Rattle.record_form.specs.ReadAs.{ReadAs, read-as, case-as}
+use Rattle.record_form.specs.Trace.{Entry, kind-of, action-of, stamp-of, entry-call}
+use Rattle.record_form.specs.declared.RecordRead.{RecordRead}
+use Rattle.record_form.specs.declared.RecordRead.the-variants.{Input, Output, Gap, End as RecordEnd, Refused as RecordRefused}
+use Rattle.record_form.proofs.Reading.{refusal-of}
+use Rattle.record_form.proofs.ReadAs.{read-case, always-read, end-stamp, refused-given}
+use Rattle.cuts.specs.Steps.{front-after, front-fresh, front-none, taken-by}
+use Rattle.session.specs.declared.Session.{Session}
+use Rattle.session.specs.declared.Stepped.{Stepped}
+use Rattle.session.specs.Record.{latest-of, cuts-of, out-of-range}
+use Rattle.session.specs.Step.{stepped-of, stepped-through}
+use Rattle.session.proofs.Steps.{step-taken, answer-refusal}
+use Rattle.walk.specs.declared.Stop.{Stop}
+use Rattle.walk.specs.declared.Stop.the-variants.{Budget, End, Refused}
+use Rattle.walk.specs.declared.Walked.{Walked}
+use Rattle.walk.specs.Walk.{Walking, stop-number, stop-refusal, one-call, one-read, stopped, one-more, walked-by, walk-on, in-numbers, budget-of, walk-of}
+use Rattle.walk.proofs.Going.{walk-refused, walk-taken}
+use Rattle.demands.specs.Traces.{calls-of, BeginsWith, behind, TakenOneByOne, StopsBy}
+
+-- What the record at the front is: an entry of a trace, the end, or refused.
+pub data Front (s : List ℕ) (before : ℕ) : ReadAs → Type 0 where
+  entry : (e : Entry) → record-answer s before ≡ Record.taken (kind-of e) (action-of e) (stamp-of e) → Front s before (ReadAs.call (entry-call e))
+  ended : record-answer s before ≡ Record.taken Record.end 0 before → Front s before ReadAs.end
+  refused : (n : ℕ) → record-answer s before .refusal ≡ n → (n ≡ 0 → ⊥) → Front s before (ReadAs.refused n)
+
+pub front : (s : List ℕ) (before : ℕ) → Front s before (read-as (record-answer s before))
+front s before = subst (Front s before) (sym (read-case h)) (go (case-of (record-answer s before)) h)
+  where
+    h : IsRead s before (case-of (record-answer s before))
+    h = always-read s before
+
+    go : (r : RecordRead) → IsRead s before r → Front s before (case-as r)
+    go (Input a t) k = entry (Entry.input a t) (sym (k .in-numbers))
+    go (Output a t) k = entry (Entry.output a t) (sym (k .in-numbers))
+    go (Gap t) k = entry (Entry.gap t) (sym (k .in-numbers))
+    go (RecordEnd t) k =
+        let e = sym (k .in-numbers) in
+        ended (e ∙ ap (Record.taken Record.end 0) (end-stamp s before 0 t e))
+    go (RecordRefused n) k =
+        let r = refused-given (record-answer s before) n (read-case k) in
+        refused n (r .1) (r .0)
+
+-- a taken call leaves its stamp as the latest
+taken-latest : (p : Property) (c : Cuts Lengths) (k : Call) → taken-by p c k .latest ≡ call-stamp k
+taken-latest p c (Call.line l) = go (c .is-blind) (beyond (meant p) (c .latest) (l .stamp))
+  where
+    go : (b d : Bool)
+        → (cond {A = Cuts Lengths} b
+        (cond d (record { is-blind = false; front = front-after p (front-fresh p) l; latest = l .stamp }) (record { is-blind = true; front = front-none p; latest = l .stamp }))
+        (record { is-blind = false; front = front-after p (c .front) l; latest = l .stamp })) .latest ≡ l .stamp
+    go true true = refl
+    go true false = refl
+    go false d = refl
+taken-latest p c (Call.mark g) = refl
+
+entry-stamp : (e : Entry) → call-stamp (entry-call e) ≡ stamp-of e
+entry-stamp (Entry.input a t) = refl
+entry-stamp (Entry.output a t) = refl
+entry-stamp (Entry.gap t) = refl
+
+pub entry-latest : (s : Session) (e : Entry) → stepped-of s (entry-call e) .answer .refusal ≡ 0 → latest-of (stepped-of s (entry-call e) .session) ≡ stamp-of e
+entry-latest s e z =
+    ap (λ (r : Stepped). latest-of (r .session)) (step-taken s (entry-call e) (sym (answer-refusal s (entry-call e)) ∙ z))
+    ∙ taken-latest (s .property) (cuts-of s) (entry-call e)
+    ∙ entry-stamp e
+
+-- ---- what a walk comes to
+
+-- Over any budget, for the walk's numbers.
+pub record WalkedOver (s : Session) (bytes : List ℕ) (budget : ℕ) (w : Walking) : Type 0 where
+  -- the bytes begin with these records, as many as it says it took, at most the budget;
+  pub entries : List Entry
+  pub begins : BeginsWith bytes (latest-of s) entries
+  pub counted : w .taken ≡ length entries
+  pub within : w .taken ≤ budget
+  -- each is taken as a single call, and the session is that of exactly these calls;
+  pub each : TakenOneByOne s (calls-of entries)
+  pub session : w .session ≡ stepped-through s (calls-of entries)
+  -- how it stopped, and the bytes read.
+  pub more : ℕ
+  pub stops : StopsBy (w .stop) (budget - w .taken) (w .session) (behind entries bytes) (w .refusal) more
+  pub read : w .read ≡ record-size * w .taken + more
+
+pub walked-over : (budget : ℕ) (s : Session) (bytes : List ℕ) → WalkedOver s bytes budget (in-numbers (walk-on budget s bytes))
+unfolding walk-on stepped-through
+walked-over zero s bytes =
+    record {
+      entries = [];
+      begins = tt;
+      counted = refl;
+      within = omega arith;
+      each = tt;
+      session = refl;
+      more = 0;
+      stops = (refl, refl, refl);
+      read = refl;
+    }
+walked-over (suc budget) s bytes = by-front (read-as (record-answer bytes (latest-of s))) (front bytes (latest-of s)) (λ after. walked-over budget after (drop record-size bytes))
+  where
+    on : Session → Walked
+    on after = walk-on budget after (drop record-size bytes)
+
+    -- nothing is taken
+    stop-here : (stop : Stop) (more : ℕ) → StopsBy (stop-number stop) (suc budget - 0) s bytes (stop-refusal stop) more
+        → WalkedOver s bytes (suc budget) (in-numbers (stopped s stop more))
+    stop-here stop more h =
+        record {
+          entries = [];
+          begins = tt;
+          counted = refl;
+          within = omega arith;
+          each = tt;
+          session = refl;
+          more = more;
+          stops = h;
+          read = let e : more ≡ record-size * 0 + more = omega arith in e;
+        }
+
+    -- one record more
+    one-taken : (e : Entry) → record-answer bytes (latest-of s) ≡ Record.taken (kind-of e) (action-of e) (stamp-of e) → stepped-of s (entry-call e) .answer .refusal ≡ 0
+        → (w : Walked) → WalkedOver (stepped-of s (entry-call e) .session) (drop record-size bytes) budget (in-numbers w)
+        → WalkedOver s bytes (suc budget) (in-numbers (one-more w))
+    one-taken e read z w h =
+        record {
+          entries = e ∷ h .entries;
+          begins = (read, subst (λ (t : ℕ). BeginsWith (drop record-size bytes) t (h .entries)) (entry-latest s e z) (h .begins));
+          counted = ap suc (h .counted);
+          within = omega (arith, h .within);
+          each = (z, h .each);
+          session = h .session;
+          more = h .more;
+          stops =
+              subst (λ (left : ℕ). StopsBy (stop-number (w .stop)) left (w .session) (behind (h .entries) (drop record-size bytes)) (stop-refusal (w .stop)) (h .more))
+              (let q : budget - w .taken ≡ suc budget - suc (w .taken) = omega arith in q) (h .stops);
+          read = let q : w .read ≡ record-size * w .taken + h .more = h .read in
+              let r : record-size + w .read ≡ record-size * suc (w .taken) + h .more = omega arith in
+              r;
+        }
+
+    tried : (e : Entry) → record-answer bytes (latest-of s) ≡ Record.taken (kind-of e) (action-of e) (stamp-of e) → (n : ℕ) → stepped-of s (entry-call e) .answer .refusal ≡ n
+        → ((after : Session) → WalkedOver after (drop record-size bytes) budget (in-numbers (on after)))
+        → WalkedOver s bytes (suc budget) (in-numbers (walked-by (one-call s (entry-call e) n) s on))
+    tried e read zero z k = unfold one-call walked-by in (one-taken e read z (on (stepped-of s (entry-call e) .session)) (k (stepped-of s (entry-call e) .session)))
+    tried e read (suc n) z k = unfold one-call walked-by in (stop-here (Refused (suc n)) 0 (inr (e, read, z), (λ y. omega arith), refl))
+
+    by-front : (x : ReadAs) → Front bytes (latest-of s) x → ((after : Session) → WalkedOver after (drop record-size bytes) budget (in-numbers (on after)))
+        → WalkedOver s bytes (suc budget) (in-numbers (walked-by (one-read s x) s on))
+    by-front x (entry e read) k = unfold one-read in (tried e read _ refl k)
+    by-front x (ended read) k = unfold one-read walked-by in (stop-here End record-size (read, refl, refl))
+    by-front x (refused n number some) k =
+        unfold one-read walked-by in (stop-here (Refused n) 0 (inl (sym (refusal-of bytes (latest-of s)) ∙ number), some, refl))
+
+-- Of the promised walk: refusal 10, whatever the budget, or that.
+pub walk-over : (s : Session) (bytes : List ℕ) (budget : ℕ) → out-of-range s ≡ false → WalkedOver s bytes (budget-of budget) (walk-of s bytes budget)
+walk-over s bytes budget e = subst (WalkedOver s bytes (budget-of budget)) (sym (walk-taken s bytes budget e)) (walked-over (budget-of budget) s bytes)
+
+pub walk-named : (s : Session) (bytes : List ℕ) (budget : ℕ) → out-of-range s ≡ true → walk-of s bytes budget ≡ in-numbers (stopped s (Refused 10) 0)
+walk-named = walk-refused

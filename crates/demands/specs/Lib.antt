@@ -1,0 +1,3 @@
+-- The words in which the demands speak of traces and of calls that are made one after the other.
+pub mod Traces
+pub mod Uses

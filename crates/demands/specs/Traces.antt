@@ -1,0 +1,71 @@
+-- A trace, record by record.
+use Prim.Native.Nat.{ℕ, zero, suc, _+_, _*_}
+use mathlib.Core.Path.{_≡_}
+use mathlib.Core.Logic.{_⊎_}
+use mathlib.Core.List.{List, [], _∷_, _++_, map}
+use lib.ListN.{length, take, drop}
+use lib.Dec.{ltb}
+use Rattle.meaning.specs.Words.{Property}
+use Rattle.meaning.specs.Numbers.{given, first-of}
+use Rattle.meaning.specs.Calls.{Call, Watch, refusal, taken}
+use Rattle.record_form.specs.Record.{record-size, record-answer, read-refusal, written}
+use Rattle.record_form.specs.Record
+use Rattle.record_form.specs.ReadAs.{ReadAs, read-as}
+use Rattle.record_form.specs.Trace.{Entry, kind-of, action-of, stamp-of, entry-call}
+use Rattle.session.specs.declared.Session.{Session}
+use Rattle.session.specs.Record.{latest-of}
+use Rattle.session.specs.Step.{stepped-of}
+
+-- The calls of a trace's records, in order.
+abbrev pub calls-of : List Entry → List Call
+calls-of entries = map entry-call entries
+
+-- The bytes begin with these records, the first of them "less the stamp before".
+abbrev pub BeginsWith : List ℕ → ℕ → List Entry → Type 0
+BeginsWith s before [] = Unit {0}
+BeginsWith s before (e ∷ entries) =
+    (record-answer s before ≡ Record.taken (kind-of e) (action-of e) (stamp-of e)) × BeginsWith (drop record-size s) (stamp-of e) entries
+
+-- What stands behind so many records.
+abbrev pub behind : List Entry → List ℕ → List ℕ
+behind [] s = s
+behind (e ∷ entries) s = behind entries (drop record-size s)
+
+-- Each of these calls is taken, one after the other.
+abbrev pub TakenOneByOne : Session → List Call → Type 0
+TakenOneByOne s [] = Unit {0}
+TakenOneByOne s (c ∷ calls) = (stepped-of s c .answer .refusal ≡ 0) × TakenOneByOne (stepped-of s c .session) calls
+
+-- The record at the front is refused with this number: by the reader, or as a call on the session.
+abbrev pub RefusedWith : Session → List ℕ → ℕ → Type 0
+RefusedWith s bytes n =
+    (read-refusal bytes (latest-of s) ≡ n)
+    ⊎ ((e : Entry) × (record-answer bytes (latest-of s) ≡ Record.taken (kind-of e) (action-of e) (stamp-of e)) × (stepped-of s (entry-call e) .answer .refusal ≡ n))
+
+-- How a walk stops that has this session and these bytes left, by the number of the way to stop: "when the given number of
+-- records has been taken", none of the budget is left; "at an end record", which is read; "at a refusal", with its number.
+-- `more` is the number of bytes read behind those of the records taken.
+abbrev pub StopsBy : ℕ → (left : ℕ) → Session → List ℕ → (number more : ℕ) → Type 0
+StopsBy zero left s bytes number more = (left ≡ 0) × (number ≡ 0) × (more ≡ 0)
+StopsBy (suc zero) left s bytes number more =
+    (record-answer bytes (latest-of s) ≡ Record.taken Record.end 0 (latest-of s)) × (number ≡ 0) × (more ≡ record-size)
+StopsBy (suc (suc other)) left s bytes number more = RefusedWith s bytes number × (number ≡ 0 → ⊥) × (more ≡ 0)
+
+-- "the first refusal met gives its number alone": of the record at the front, by what it stands for and by what the calls before
+-- it have come to; "Bytes behind .. the end record are refusal 8"; `on` is the first refusal met in the bytes behind it.
+abbrev pub met : Property → Watch → List ℕ → ReadAs → (Watch → ℕ) → ℕ
+met p w bytes (ReadAs.refused n) on = n
+met p w bytes ReadAs.end on = given 8 (ltb record-size (length bytes))
+met p w bytes (ReadAs.call c) on = first-of (refusal p w c) (on (taken p w c))
+
+-- The first refusal met in a trace of at most so many records, 0 for none; "a stretch that stops without an end record" is 7.
+unfoldable pub first-met : ℕ → Property → Watch → List ℕ → ℕ
+first-met zero p w bytes = 7
+first-met (suc more) p w bytes =
+    met p w bytes (read-as (record-answer bytes (w .latest))) (λ after. first-met more p after (drop record-size bytes))
+
+-- Records written one behind the other with the promised writer, and then the end record.
+unfoldable pub written-through : ℕ → List Entry → List ℕ → List ℕ
+written-through before [] buffer = written Record.end 0 before before buffer
+written-through before (e ∷ entries) buffer =
+    take record-size (written (kind-of e) (action-of e) (stamp-of e) before buffer) ++ written-through (stamp-of e) entries (drop record-size buffer)
