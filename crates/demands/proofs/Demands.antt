@@ -3,11 +3,11 @@
 -- calls on a fresh one, `seen p calls` what those calls have come to by the rules.
 use Prim.Native.Nat.{ℕ, zero, suc, _+_, _*_, _/_, _%_, _≤_, _<_}
 use mathlib.Core.Path.{_≡_, refl, sym, _∙_, ap, subst}
-use mathlib.Core.Bool.{Bool, true, false}
+use mathlib.Core.Bool.{Bool, true, false, not}
 use mathlib.Core.List.{List, [], _∷_, _++_}
 use native.Mathlib.Omega.{arith}
 use lib.ListN.{length, drop, take}
-use lib.Dec.{ltb}
+use lib.Dec.{ltb, eqb}
 use Rattle.meaning.specs.Words.{Action, Line}
 use Rattle.meaning.specs.Words
 use Rattle.meaning.specs.Node.{Breaks, Verdict, VerdictFor, verdict-number}
@@ -26,14 +26,14 @@ use Rattle.property_form.specs.Read.{property-read, zeros, too-short, pad-broke
 use Rattle.property_form.specs.Read
 use Rattle.property_form.specs.Write
 use Rattle.property_form.specs.Form.{property-form}
-use Rattle.property_form.proofs.Answers.{taken-none}
-use Rattle.record_form.specs.Record.{Bytes, RecordAnswer, record-size, record-answer, bytes-read, broken, stamp-above, write-refusal}
+use Rattle.property_form.proofs.Answers.{read-refused, taken-none, written-refused, left-refused}
+use Rattle.record_form.specs.Record.{Bytes, record-answer, read-refusal, fields-refusal, bytes-read, broken, stamp-above, write-refusal}
 use Rattle.record_form.specs.Record
 use Rattle.record_form.specs.Trace.{Entry, kind-of, entry-call, trace-form}
-use Rattle.cuts.specs.Steps.{line-of}
+use Rattle.cuts.specs.Steps.{line-of, fresh-by}
 use Rattle.fields.specs.Fields.{field}
 use Rattle.session.specs.declared.Session.{Session}
-use Rattle.session.specs.Record.{out-of-range}
+use Rattle.session.specs.Record.{record-of, out-of-range}
 use Rattle.session.specs.Step.{answer-of, refusal-of, fresh-of, stepped-of, no-session}
 use Rattle.session.proofs.Steps.{step-refused, answer-refusal, fresh-refused, fresh-taken}
 use Rattle.session.proofs.Running.{running-answer}
@@ -50,10 +50,12 @@ use Rattle.demands.proofs.Exact.{blind-kept, exact-kept, line-told, say
 use Rattle.demands.proofs.Walks.{WalkedOver, walk-over, walk-named}
 use Rattle.demands.proofs.Judging.{JudgeTaken, judge-taken, judge-first, judge-alone}
 use Rattle.demands.proofs.Uses.{uses-are-calls}
+use Rattle.demands.proofs.Forms.{record-refused, record-not-written}
 -- "Packed properties and traces read back as written, and only one packing of each is taken."
 pub use Rattle.property_form.proofs.RoundTrip.{write-then-read as property-reads-back, read-then-write as property-writes-back, one-packing as property-one-packing}
 pub use Rattle.record_form.proofs.Trace.{trace-reads-back, trace-writes-back, trace-one-packing}
 pub use Rattle.demands.proofs.Written.{written-trace}
+pub use Rattle.demands.proofs.Forms.{begins-one-packing}
 
 -- ==== Demand 2, over the meaning. "After each line taken while the watcher isn't blind, the verdict on the run is exact."
 module _ (p : Words.Property) (good : property-refusal p ≡ 0) where
@@ -122,6 +124,63 @@ pub record Demand-1 (s : Session) (c : Call) : Type 0 where
 
 pub demand-1 : (s : Session) (c : Call) → Demand-1 s c
 demand-1 s c = record { number = answer-refusal s c; refused = λ n e. step-refused s c (suc n) e (λ z. omega arith) }
+
+-- Of `fresh`: "refusals 1, 2, 3"; taken, verdict 0 and no input held.
+pub record Demand-1-fresh (p : Data.Property) : Type 0 where
+  pub taken : property-refusal (meant p) ≡ 0
+      → fresh-of p ≡ record { answer = record { refusal = 0; verdict = 0; open_count = 0 }; session = record-of p (fresh-by p) }
+  pub refused : (n : ℕ) → property-refusal (meant p) ≡ suc n → fresh-of p ≡ record { answer = answer-of (Calls.refused (suc n)); session = no-session }
+
+pub demand-1-fresh : (p : Data.Property) → Demand-1-fresh p
+demand-1-fresh p = record { taken = fresh-taken p; refused = λ n e. fresh-refused p (suc n) e (λ z. omega arith) }
+
+-- Of `read_property` and `property_rest`: 7, 8, 1, 2, 3; refused, a property of zeros, and no byte is taken.
+pub record Demand-1-read-property (s : List ℕ) : Type 0 where
+  pub number : Read.read s .refusal ≡ first-of (given 7 (too-short s)) (first-of (given 8 (pad-broken s)) (property-refusal (meant (property-read s))))
+  pub refused : (n : ℕ) → property-read-refusal s ≡ suc n → (Read.read s ≡ record { refusal = suc n; property = zeros }) × (property-taken s ≡ 0)
+
+pub demand-1-read-property : (s : List ℕ) → Demand-1-read-property s
+unfolding Read.read property-read-refusal
+demand-1-read-property s =
+    record {
+      number = refl;
+      refused = λ n e. (sym (read-refused s (suc n) zeros (sym e) (λ z. omega arith) refl), sym (taken-none s (λ z. omega (arith, e, z))));
+    }
+
+-- Of `write_property`: 1, 2, 3, 9; refused, no byte is written.
+pub record Demand-1-write-property (q : Words.Property) (buffer : List ℕ) : Type 0 where
+  pub number : Write.written q buffer .refusal ≡ first-of (property-refusal q) (given 9 (ltb (length buffer) (length (property-form q))))
+  pub refused : (n : ℕ) → Write.write-refusal q buffer ≡ suc n → (Write.written q buffer ≡ record { refusal = suc n; size = 0 }) × (Write.left q buffer ≡ buffer)
+
+pub demand-1-write-property : (q : Words.Property) (buffer : List ℕ) → Demand-1-write-property q buffer
+unfolding Write.written Write.write-refusal
+demand-1-write-property q buffer =
+    record {
+      number = refl;
+      refused = λ n e. (sym (written-refused q buffer (suc n) (sym e) (λ z. omega arith)), sym (left-refused q buffer (λ z. omega (arith, e, z))));
+    }
+
+-- Of `read_record` and `record_rest`: 7, 8, 4; refused, zeros, and no byte is taken.
+pub record Demand-1-read-record (s : List ℕ) (before : ℕ) : Type 0 where
+  pub number : read-refusal s before
+      ≡ first-of (given 7 (ltb (length s) 6))
+      (first-of (given 8 (broken (field s 0 2) (field s 2 6) (not (eqb (field s 8 40) 0)))) (given 4 (stamp-above (before + field s 8 40) before)))
+  pub refused : (n : ℕ) → read-refusal s before ≡ suc n → (record-answer s before ≡ Record.refused (suc n)) × (bytes-read s before ≡ 0)
+
+pub demand-1-read-record : (s : List ℕ) (before : ℕ) → Demand-1-read-record s before
+unfolding read-refusal fields-refusal
+demand-1-read-record s before = record { number = refl; refused = record-refused s before }
+
+-- Of `write_record`: 8, 3, 4, 5, 9; refused, no byte is written.
+pub record Demand-1-write-record (kind action stamp before : ℕ) (buffer : List ℕ) : Type 0 where
+  pub number : write-refusal kind action stamp before (length buffer)
+      ≡ first-of (given 8 (broken kind action (not (eqb stamp before))))
+      (first-of (given 3 (ltb 63 action)) (first-of (given 4 (stamp-above stamp before)) (first-of (given 5 (ltb stamp before)) (given 9 (ltb (length buffer) 6)))))
+  pub refused : (n : ℕ) → write-refusal kind action stamp before (length buffer) ≡ suc n → Record.written kind action stamp before buffer ≡ buffer
+
+pub demand-1-write-record : (kind action stamp before : ℕ) (buffer : List ℕ) → Demand-1-write-record kind action stamp before buffer
+unfolding write-refusal
+demand-1-write-record kind action stamp before buffer = record { number = refl; refused = record-not-written kind action stamp before buffer }
 
 -- ==== The calls that run, from a fresh session, for all call orders and all numbers
 module _ (p : Data.Property) (good : property-refusal (meant p) ≡ 0) where

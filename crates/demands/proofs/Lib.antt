@@ -1,4 +1,4 @@
--- The demands as theorems: Demands (the session's calls and the walk), Reached (every other public call); the rest serves them.
+-- The demands as theorems: Demands; the rest serves it.
 pub mod Demands
 pub mod Running
 pub mod Exact
@@ -7,3 +7,4 @@ pub mod Uses
 pub mod Judged
 pub mod Judging
 pub mod Written
+pub mod Forms

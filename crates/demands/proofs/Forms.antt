@@ -1,0 +1,41 @@
+-- The packed forms: records refused, and records that a walk takes.
+use Prim.Native.Nat.{ℕ, zero, suc, _+_, _*_, _<_}
+use mathlib.Core.Path.{_≡_, refl, sym, _∙_, ap, ap₂, subst}
+use mathlib.Core.List.{List, [], _∷_, _++_}
+use native.Mathlib.Omega.{arith}
+use lib.ListN.{length, take, drop}
+use lib.Seq.{getD-drop, take-add}
+use Rattle.meaning.proofs.Refusals.{unless-kept}
+use Rattle.record_form.specs.Record.{Bytes, record-size, record-form, record-answer, read-refusal, bytes-read, write-refusal, written, answered}
+use Rattle.record_form.specs.Record
+use Rattle.record_form.specs.Trace.{Entry, kind-of, action-of, stamp-of}
+use Rattle.record_form.proofs.RoundTrip.{record-one-packing}
+use Rattle.demands.specs.Traces.{BeginsWith}
+
+pub record-refused : (s : List ℕ) (before n : ℕ) → read-refusal s before ≡ suc n → (record-answer s before ≡ Record.refused (suc n)) × (bytes-read s before ≡ 0)
+unfolding record-answer answered bytes-read
+record-refused s before n e = (
+  unless-kept (read-refusal s before) _ _ (λ z. omega (arith, e, z)) ∙ ap Record.refused e,
+  unless-kept (read-refusal s before) record-size 0 (λ z. omega (arith, e, z)),
+)
+
+pub record-not-written : (kind action stamp before : ℕ) (buffer : List ℕ) (n : ℕ) → write-refusal kind action stamp before (length buffer) ≡ suc n
+    → written kind action stamp before buffer ≡ buffer
+unfolding written
+record-not-written kind action stamp before buffer n e = unless-kept (write-refusal kind action stamp before (length buffer)) _ _ (λ z. omega (arith, e, z))
+
+-- Bytes that begin with the same records begin with the same bytes.
+pub begins-one-packing : (s t : List ℕ) (before : ℕ) (entries : List Entry) → Bytes s → Bytes t → BeginsWith s before entries → BeginsWith t before entries
+    → take (record-size * length entries) s ≡ take (record-size * length entries) t
+begins-one-packing s t before [] bs bt hs ht = refl
+begins-one-packing s t before (e ∷ entries) bs bt hs ht =
+    let more : record-size * suc (length entries) ≡ record-size + record-size * length entries = omega arith in
+    ap (λ (n : ℕ). take n s) more
+    ∙ take-add record-size (record-size * length entries) s
+    ∙ ap₂ _++_ (record-one-packing s t before (kind-of e) (action-of e) (stamp-of e) bs bt (hs .0) (ht .0))
+    (begins-one-packing (drop record-size s) (drop record-size t) (stamp-of e) entries (behind-bytes s bs) (behind-bytes t bt) (hs .1) (ht .1))
+    ∙ sym (take-add record-size (record-size * length entries) t)
+    ∙ ap (λ (n : ℕ). take n t) (sym more)
+  where
+    behind-bytes : (u : List ℕ) → Bytes u → Bytes (drop record-size u)
+    behind-bytes u b i = subst (λ (x : ℕ). x < 256) (sym (getD-drop record-size u i 0)) (b (record-size + i))
