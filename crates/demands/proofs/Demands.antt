@@ -44,7 +44,7 @@ use Rattle.stretch.specs.Judge.{judge-of, one-number}
 use Rattle.stretch.proofs.Bounds.{judge-small}
 use Rattle.stretch.proofs.Judging.{one-short, one-long}
 use Rattle.demands.specs.Uses.{Use, session-through}
-use Rattle.demands.specs.Traces.{first-met}
+use Rattle.demands.specs.Traces.{entry-of, first-met}
 use Rattle.demands.proofs.Running.{running, seen, running-number, running-range}
 use Rattle.demands.proofs.Exact.{blind-kept, exact-kept, line-told, says-blind}
 use Rattle.demands.proofs.Walks.{WalkedOver, walk-over, walk-named}
@@ -234,25 +234,33 @@ pub record Demand-1-walk (s : Session) (bytes : List ℕ) (budget : ℕ) : Type 
 pub demand-1-walk : (s : Session) (bytes : List ℕ) (budget : ℕ) → Demand-1-walk s bytes budget
 demand-1-walk s bytes budget = record { named = walk-named s bytes budget; walked = walk-over s bytes budget }
 
--- ==== What a record is: "0 input, 1 output, 2 gap, 3 end", each the call of its kind; and so are the arguments of the calls
+-- ==== "0 input, 1 output, 2 gap, 3 end": the numbers of a record's kind; a record's call, of which walk and judge speak, is the call
+-- whose record it is; and the arguments of `line` are those of a line.
 pub record Kinds : Type 0 where
-  pub input : (k t : ℕ) → (kind-of (Entry.input k t) ≡ 0) × (entry-call (Entry.input k t) ≡ Call.line (record { action = Action.input k; stamp = t }))
-  pub output : (k t : ℕ) → (kind-of (Entry.output k t) ≡ 1) × (entry-call (Entry.output k t) ≡ Call.line (record { action = Action.output k; stamp = t }))
-  pub gap : (t : ℕ) → (kind-of (Entry.gap t) ≡ 2) × (entry-call (Entry.gap t) ≡ Call.mark (record { stamp = t }))
+  pub input : (k t : ℕ) → kind-of (Entry.input k t) ≡ 0
+  pub output : (k t : ℕ) → kind-of (Entry.output k t) ≡ 1
+  pub gap : (t : ℕ) → kind-of (Entry.gap t) ≡ 2
   pub end : Record.end ≡ 3
-  pub line-input : (k t : ℕ) → line-of false k t ≡ record { action = Action.input k; stamp = t }
-  pub line-output : (k t : ℕ) → line-of true k t ≡ record { action = Action.output k; stamp = t }
+  pub own-call : (e : Entry) → entry-of (entry-call e) ≡ e
+  pub line-input : (k t : ℕ) → entry-of (Call.line (line-of false k t)) ≡ Entry.input k t
+  pub line-output : (k t : ℕ) → entry-of (Call.line (line-of true k t)) ≡ Entry.output k t
 
 pub kinds : Kinds
 kinds =
     record {
-      input = λ k t. (refl, refl);
-      output = λ k t. (refl, refl);
-      gap = λ t. (refl, refl);
+      input = λ k t. refl;
+      output = λ k t. refl;
+      gap = λ t. refl;
       end = refl;
+      own-call = own-call;
       line-input = λ k t. refl;
       line-output = λ k t. refl;
     }
+  where
+    own-call : (e : Entry) → entry-of (entry-call e) ≡ e
+    own-call (Entry.input k t) = refl
+    own-call (Entry.output k t) = refl
+    own-call (Entry.gap t) = refl
 
 -- `kept::step` is the step by value on the session lent: its promise is `stepped-of .. (call-of event)`, of which demand 1 speaks.
 pub demand-1-kept : (output : Bool) (action stamp : ℕ)

@@ -5,7 +5,7 @@ use mathlib.Core.Logic.{_⊎_}
 use mathlib.Core.List.{List, [], _∷_, _++_, map}
 use lib.ListN.{length, take, drop}
 use lib.Dec.{ltb}
-use Rattle.meaning.specs.Words.{Property}
+use Rattle.meaning.specs.Words.{Property, Action}
 use Rattle.meaning.specs.Numbers.{given, first-of}
 use Rattle.meaning.specs.Calls.{Call, Watch, refusal, taken}
 use Rattle.record_form.specs.Record.{record-size, record-answer, read-refusal, written}
@@ -15,6 +15,15 @@ use Rattle.record_form.specs.Trace.{Entry, kind-of, action-of, stamp-of, entry-
 use Rattle.session.specs.declared.Session.{Session}
 use Rattle.session.specs.Record.{latest-of}
 use Rattle.session.specs.Step.{stepped-of}
+
+-- The record of a call: a line is an input or an output with its stamp, a gap mark has its stamp.
+abbrev pub action-entry : Action → ℕ → Entry
+action-entry (Action.input k) stamp = Entry.input k stamp
+action-entry (Action.output k) stamp = Entry.output k stamp
+
+abbrev pub entry-of : Call → Entry
+entry-of (Call.line l) = action-entry (l .action) (l .stamp)
+entry-of (Call.mark m) = Entry.gap (m .stamp)
 
 -- The calls of a trace's records, in order.
 abbrev pub calls-of : List Entry → List Call
