@@ -1,14 +1,14 @@
 -- The demands of document 00, each as a theorem. Open this file first; the words it uses are defined in crates/meaning/specs (runs,
 -- explanations, verdicts, refusals, histories) and in crates/demands/specs (traces). `running p calls` is the session after any
 -- calls on a fresh one, `seen p calls` what those calls have come to by the rules.
-use Prim.Native.Nat.{ℕ, zero, suc, _+_, _*_, _/_, _%_, _≤_, _<_}
-use mathlib.Core.Path.{_≡_, refl, sym, _∙_, ap, subst}
+use Prim.Native.Nat.{ℕ, suc, _+_, _*_, _/_, _%_, _≤_, _<_}
+use mathlib.Core.Path.{_≡_, refl, sym, _∙_, ap}
 use mathlib.Core.Bool.{Bool, true, false, not}
 use mathlib.Core.List.{List, [], _∷_, _++_}
 use native.Mathlib.Omega.{arith}
-use lib.ListN.{length, drop, take}
+use lib.ListN.{length}
 use lib.Dec.{ltb, eqb}
-use Rattle.meaning.specs.Words.{Action, Line}
+use Rattle.meaning.specs.Words.{Line}
 use Rattle.meaning.specs.Words
 use Rattle.meaning.specs.Node.{Breaks, Verdict, VerdictFor, verdict-number}
 use Rattle.meaning.specs.Numbers.{given, first-of, property-refusal}

@@ -1,13 +1,13 @@
 -- Demands 2 and 3 over the meaning, and of the numbers that the running calls answer.
-use Prim.Native.Nat.{ℕ, zero, suc, _+_, _*_, _≤_, _<_}
-use mathlib.Core.Path.{_≡_, refl, sym, _∙_, ap, subst}
+use Prim.Native.Nat.{ℕ, _+_, _*_, _<_}
+use mathlib.Core.Path.{_≡_, sym, _∙_, ap, subst}
 use mathlib.Core.Bool.{Bool, true, cond}
 use mathlib.Core.List.{List, [], _∷_, _++_}
 use Rattle.meaning.specs.Words.{Line}
 use Rattle.meaning.specs.Words
-use Rattle.meaning.specs.Node.{Breaks, Verdict, VerdictFor, IsVerdict, verdict-number}
+use Rattle.meaning.specs.Node.{Verdict, VerdictFor, IsVerdict, verdict-number}
 use Rattle.meaning.specs.Numbers.{property-refusal}
-use Rattle.meaning.specs.Calls.{Mark, Call, Watch, fresh, watched, AllTaken, kept, Standing, Answer, IsAnswer, AnswerBy, Told, TakenAnswer, refusal, with-line}
+use Rattle.meaning.specs.Calls.{Mark, Call, Watch, fresh, watched, AllTaken, kept, Standing, AnswerBy, Told, refusal, with-line}
 use Rattle.meaning.specs.Step.{grown}
 use Rattle.meaning.specs.History.{Event, fed, all-lines, Premises, highest, Quiet, NoMark, BreaksAfter}
 use Rattle.meaning.proofs.Lengths.{lengths-reading}
@@ -16,8 +16,7 @@ use Rattle.meaning.proofs.Histories.{blind-until, history-verdict, taken-append
 use Rattle.property.specs.Meant.{meant}
 use Rattle.property.specs.declared.Property.{Property}
 use Rattle.cuts.specs.Steps.{verdict-by, answer-by}
-use Rattle.session.specs.Record.{cuts-of}
-use Rattle.session.specs.Step.{answer-of, stepped-of, standing}
+use Rattle.session.specs.Step.{stepped-of, standing}
 use Rattle.session.proofs.Running.{running-answer}
 use Rattle.demands.proofs.Running.{running, seen, running-stands, running-property, seen-taken}
 

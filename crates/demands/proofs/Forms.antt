@@ -1,12 +1,12 @@
 -- The packed forms: records refused, and records that a walk takes.
-use Prim.Native.Nat.{ℕ, zero, suc, _+_, _*_, _<_}
+use Prim.Native.Nat.{ℕ, suc, _+_, _*_, _<_}
 use mathlib.Core.Path.{_≡_, refl, sym, _∙_, ap, ap₂, subst}
 use mathlib.Core.List.{List, [], _∷_, _++_}
 use native.Mathlib.Omega.{arith}
 use lib.ListN.{length, take, drop}
 use lib.Seq.{getD-drop, take-add}
 use Rattle.meaning.proofs.Refusals.{unless-kept}
-use Rattle.record_form.specs.Record.{Bytes, record-size, record-form, record-answer, read-refusal, bytes-read, write-refusal, written, answered}
+use Rattle.record_form.specs.Record.{Bytes, record-size, record-answer, read-refusal, bytes-read, write-refusal, written, answered}
 use Rattle.record_form.specs.Record
 use Rattle.record_form.specs.Trace.{Entry, kind-of, action-of, stamp-of}
 use Rattle.record_form.proofs.RoundTrip.{record-one-packing}

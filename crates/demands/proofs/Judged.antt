@@ -9,28 +9,23 @@ use lib.ListN.{length, drop, length-drop}
 use lib.Dec.{ltb}
 use borrow.Author.Tests.{ltb-false, lt-ltb, le-ltb, ltb-true}
 use Rattle.meaning.specs.Numbers.{given, first-of, property-refusal}
-use Rattle.meaning.specs.Calls.{Call, Watch, fresh, refusal, taken}
+use Rattle.meaning.specs.Calls.{Call, Watch, refusal, taken}
 use Rattle.property.specs.Meant.{meant}
 use Rattle.property.specs.declared.Property.{Property}
-use Rattle.property_form.specs.declared.PropertyRead.{PropertyRead}
-use Rattle.property_form.specs.Read.{read, read-refusal, property-read}
-use Rattle.property_form.specs.Read
-use Rattle.property_form.proofs.Answers.{refusal-read, not-refused, property-of-read}
+use Rattle.property_form.specs.Read.{read}
 use Rattle.record_form.specs.Record.{record-size, record-answer}
 use Rattle.record_form.specs.Record
 use Rattle.record_form.specs.ReadAs.{ReadAs, read-as}
 use Rattle.record_form.specs.Trace.{Entry, kind-of, action-of, stamp-of, entry-call, TakenAs}
 use Rattle.record_form.proofs.ReadAs.{always-read, read-whole}
 use Rattle.session.specs.declared.Session.{Session}
-use Rattle.session.specs.Record.{latest-of, record-of}
-use Rattle.session.specs.Step.{stepped-of, stepped-through, fresh-of}
-use Rattle.session.proofs.Running.{fresh-record}
+use Rattle.session.specs.Record.{latest-of}
+use Rattle.session.specs.Step.{stepped-of, stepped-through}
 use Rattle.walk.specs.declared.Stop.{Stop}
 use Rattle.walk.specs.declared.Stop.the-variants.{Budget, End, Refused}
 use Rattle.walk.specs.declared.Walked.{Walked}
 use Rattle.walk.specs.Walk.{stop-number, stop-refusal, one-call, one-read, stopped, one-more, walked-by, walk-on, in-numbers}
-use Rattle.stretch.specs.declared.Judged.{Judged}
-use Rattle.stretch.specs.Judge.{refused, ended, by-stop, walked, trace-judged, by-property, judge-of}
+use Rattle.stretch.specs.Judge.{by-stop}
 use Rattle.demands.specs.Traces.{calls-of, BeginsWith, behind, TakenOneByOne, StopsBy, met, first-met}
 use Rattle.demands.proofs.Running.{running, seen, running-latest, running-number, running-next, seen-taken}
 use Rattle.demands.proofs.Walks.{Front, entry, ended as at-end, refused as not-read, front, entry-latest, WalkedOver, walked-over}

@@ -1,10 +1,10 @@
 -- The judge, from its bytes to its numbers.
-use Prim.Native.Nat.{ℕ, zero, suc, _-_, _≤_}
+use Prim.Native.Nat.{ℕ, zero, suc, _-_}
 use mathlib.Core.Path.{_≡_, refl, sym, _∙_, ap, subst}
 use mathlib.Core.Bool.{Bool, true, false, cond}
 use mathlib.Core.List.{List, []}
 use native.Mathlib.Omega.{arith}
-use lib.ListN.{length, take}
+use lib.ListN.{length}
 use lib.Seq.{take-all}
 use lib.Dec.{ltb}
 use borrow.Author.Tests.{ltb-false}
@@ -34,7 +34,7 @@ use Rattle.walk.specs.Walk.{stop-number, stop-refusal, walk-on, in-numbers}
 use Rattle.stretch.specs.declared.Judged.{Judged}
 use Rattle.stretch.specs.Judge.{refused, by-stop, walked, trace-judged, by-property, judge-of}
 use Rattle.demands.specs.Traces.{calls-of, behind, StopsBy, first-met}
-use Rattle.demands.proofs.Running.{running, seen, all-taken}
+use Rattle.demands.proofs.Running.{running, all-taken}
 use Rattle.demands.proofs.Exact.{standing-told}
 use Rattle.demands.proofs.Walks.{WalkedOver, walked-over}
 use Rattle.demands.proofs.Judged.{TakenWhole, whole-trace, judged-first}

@@ -1,12 +1,11 @@
 -- The session that any calls on a fresh one have made, beside what the calls have come to by the rules.
-use Prim.Native.Nat.{ℕ, zero, suc}
 use mathlib.Core.Path.{_≡_, refl, sym, _∙_, ap, subst}
 use mathlib.Core.Bool.{false}
 use mathlib.Core.List.{List, [], _∷_, _++_}
 use Rattle.meaning.specs.Words
 use Rattle.meaning.specs.Node.{Breaks}
 use Rattle.meaning.specs.Numbers.{property-refusal}
-use Rattle.meaning.specs.Calls.{Call, Watch, fresh, watched, AllTaken, refusal, taken, next, unless-refused}
+use Rattle.meaning.specs.Calls.{Call, Watch, fresh, watched, AllTaken, refusal, taken, next}
 use Rattle.meaning.specs.Matcher.{Lengths}
 use Rattle.meaning.specs.Step.{Cuts, grown}
 use Rattle.meaning.proofs.Sets.{Reading}
@@ -18,7 +17,7 @@ use Rattle.property.specs.declared.Property.{Property}
 use Rattle.cuts.specs.Steps.{refusal-by}
 use Rattle.session.specs.declared.Session.{Session}
 use Rattle.session.specs.Record.{latest-of, cuts-of, out-of-range}
-use Rattle.session.specs.Step.{refusal-of, fresh-of, stepped-of, stepped-through}
+use Rattle.session.specs.Step.{fresh-of, stepped-of, stepped-through}
 use Rattle.session.proofs.Fit.{in-range}
 use Rattle.session.proofs.Steps.{answer-refusal, refusal-fits}
 use Rattle.session.proofs.Grown.{grown-stands, grown-fit}

@@ -1,14 +1,12 @@
 -- Lines, marks and walks in any mixture are single calls in a row.
-use Prim.Native.Nat.{ℕ}
-use mathlib.Core.Path.{_≡_, refl, sym, _∙_, ap, subst}
-use mathlib.Core.List.{List, [], _∷_, _++_, append-nil}
+use mathlib.Core.Path.{_≡_, refl, sym, _∙_, ap}
+use mathlib.Core.List.{List, [], _∷_, _++_}
 use Rattle.meaning.specs.Numbers.{property-refusal}
 use Rattle.meaning.specs.Calls.{Call}
 use Rattle.property.specs.Meant.{meant}
 use Rattle.property.specs.declared.Property.{Property}
 use Rattle.session.specs.declared.Session.{Session}
 use Rattle.session.specs.Step.{fresh-of, stepped-of, stepped-through}
-use Rattle.walk.specs.Walk.{walk-of}
 use Rattle.demands.specs.Traces.{calls-of}
 use Rattle.demands.specs.Uses.{Use, session-after, session-through}
 use Rattle.demands.proofs.Running.{running, running-range, running-next}

@@ -1,7 +1,7 @@
 -- A walk takes the trace's own records, in order, each as a single call; and how it stops.
 use Prim.Native.Nat.{ℕ, zero, suc, _+_, _-_, _*_, _≤_}
 use mathlib.Core.Path.{_≡_, refl, sym, _∙_, ap, subst}
-use mathlib.Core.Logic.{_⊎_, inl, inr}
+use mathlib.Core.Logic.{inl, inr}
 use mathlib.Core.Bool.{Bool, true, false, cond}
 use mathlib.Core.List.{List, [], _∷_}
 use native.Mathlib.Omega.{arith}
@@ -27,7 +27,7 @@ use Rattle.session.specs.Record.{latest-of, cuts-of, out-of-range}
 use Rattle.session.specs.Step.{stepped-of, stepped-through}
 use Rattle.session.proofs.Steps.{step-taken, answer-refusal}
 use Rattle.walk.specs.declared.Stop.{Stop}
-use Rattle.walk.specs.declared.Stop.the-variants.{Budget, End, Refused}
+use Rattle.walk.specs.declared.Stop.the-variants.{End, Refused}
 use Rattle.walk.specs.declared.Walked.{Walked}
 use Rattle.walk.specs.Walk.{Walking, stop-number, stop-refusal, one-call, one-read, stopped, one-more, walked-by, walk-on, in-numbers, budget-of, walk-of}
 use Rattle.walk.proofs.Going.{walk-refused, walk-taken}
