@@ -49,8 +49,9 @@ use Rattle.demands.proofs.Running.{running, seen, running-number, runni
 use Rattle.demands.proofs.Exact.{blind-kept, exact-kept, line-told, says-blind}
 use Rattle.demands.proofs.Walks.{WalkedOver, walk-over, walk-named}
 use Rattle.demands.proofs.Judging.{JudgeTaken, judge-taken, judge-first, judge-alone}
+use Rattle.record_form.proofs.Reading.{refusal-of as refusal-of-record}
 use Rattle.demands.proofs.Uses.{uses-are-calls}
-use Rattle.demands.proofs.Forms.{record-refused, record-not-written}
+use Rattle.demands.proofs.Forms.{record-refused, record-not-written, fresh-number}
 -- "Packed properties and traces read back as written, and only one packing of each is taken."
 pub use Rattle.property_form.proofs.RoundTrip.{write-then-read as property-reads-back, read-then-write as property-writes-back, one-packing as property-one-packing}
 pub use Rattle.record_form.proofs.Trace.{trace-reads-back, trace-writes-back, trace-one-packing}
@@ -113,74 +114,69 @@ module _ (p : Words.Property) (good : property-refusal p ≡ 0) where
     demand-3 first later e premises far no-mark =
         exact-kept p good calls earlier g between quiet first later e premises far no-mark (cuts-verdict p (lengths p) (grown p calls)) (demand-2 calls .exact)
 
--- ==== Demand 1, of the calls on a session. ".. each call ends with its answer or a numbered refusal, given exactly when the rules
--- say so. What is refused alters neither the session nor any buffer; lines taken earlier in the same call stay taken."
--- That each call ends is proved of every function. Of line and mark, on any record, also one that no calls made:
-pub record Demand-1 (s : Session) (c : Call) : Type 0 where
-  -- the number is the first of the table that holds: 10, then those of the step;
-  pub number : stepped-of s c .answer .refusal ≡ refusal-of s c
-  -- what is refused carries 0 in all other numbers and leaves the session as it was.
-  pub refused : (n : ℕ) → refusal-of s c ≡ suc n → stepped-of s c ≡ record { answer = answer-of (Calls.refused (suc n)); session = s }
+-- ==== Demand 1. "For all bytes, numbers and call orders each call ends with its answer or a numbered refusal, given exactly when the
+-- rules say so. What is refused alters neither the session nor any buffer; lines taken earlier in the same call stay taken."
+-- That each call ends is proved of every function. Its number is the first of the table's order that holds, 0 for none; where it is
+-- not 0 the whole answer, and all that was lent, is as `Alone` says.
+pub record Refuses (number order : ℕ) (Alone : ℕ → Type 0) : Type 0 where
+  pub first : number ≡ order
+  pub alone : (n : ℕ) → number ≡ suc n → Alone (suc n)
 
-pub demand-1 : (s : Session) (c : Call) → Demand-1 s c
-demand-1 s c = record { number = answer-refusal s c; refused = λ n e. step-refused s c (suc n) e (λ z. omega arith) }
+-- `line` and `mark`, on any record, also one that no calls made: 10, then those of the step; zeros, and the session as it was.
+pub demand-1 : (s : Session) (c : Call)
+    → Refuses (stepped-of s c .answer .refusal) (refusal-of s c) (λ n. stepped-of s c ≡ record { answer = answer-of (Calls.refused n); session = s })
+demand-1 s c =
+    record { first = answer-refusal s c; alone = λ n e. step-refused s c (suc n) (sym (answer-refusal s c) ∙ e) (λ z. omega arith) }
 
--- Of `fresh`: "refusals 1, 2, 3"; taken, verdict 0 and no input held.
-pub record Demand-1-fresh (p : Data.Property) : Type 0 where
-  pub taken : property-refusal (meant p) ≡ 0
-      → fresh-of p ≡ record { answer = record { refusal = 0; verdict = 0; open_count = 0 }; session = record-of p (fresh-by p) }
-  pub refused : (n : ℕ) → property-refusal (meant p) ≡ suc n → fresh-of p ≡ record { answer = answer-of (Calls.refused (suc n)); session = no-session }
+-- `fresh`: 1, 2, 3; zeros, and a session of zeros. Taken, verdict 0 and no input held.
+pub demand-1-fresh : (p : Data.Property)
+    → Refuses (fresh-of p .answer .refusal) (property-refusal (meant p)) (λ n. fresh-of p ≡ record { answer = answer-of (Calls.refused n); session = no-session })
+demand-1-fresh p =
+    record { first = fresh-number p; alone = λ n e. fresh-refused p (suc n) (sym (fresh-number p) ∙ e) (λ z. omega arith) }
 
-pub demand-1-fresh : (p : Data.Property) → Demand-1-fresh p
-demand-1-fresh p = record { taken = fresh-taken p; refused = λ n e. fresh-refused p (suc n) e (λ z. omega arith) }
+pub fresh-begins : (p : Data.Property) → property-refusal (meant p) ≡ 0
+    → fresh-of p ≡ record { answer = record { refusal = 0; verdict = 0; open_count = 0 }; session = record-of p (fresh-by p) }
+fresh-begins p = fresh-taken p
 
--- Of `read_property` and `property_rest`: 7, 8, 1, 2, 3; refused, a property of zeros, and no byte is taken.
-pub record Demand-1-read-property (s : List ℕ) : Type 0 where
-  pub number : Read.read s .refusal ≡ first-of (given 7 (too-short s)) (first-of (given 8 (pad-broken s)) (property-refusal (meant (property-read s))))
-  pub refused : (n : ℕ) → property-read-refusal s ≡ suc n → (Read.read s ≡ record { refusal = suc n; property = zeros }) × (property-taken s ≡ 0)
-
-pub demand-1-read-property : (s : List ℕ) → Demand-1-read-property s
+-- `read_property` with `property_rest`: 7, 8, 1, 2, 3; a property of zeros, and no byte is taken.
+pub demand-1-read-property : (s : List ℕ)
+    → Refuses (Read.read s .refusal) (first-of (given 7 (too-short s)) (first-of (given 8 (pad-broken s)) (property-refusal (meant (property-read s)))))
+    (λ n. (Read.read s ≡ record { refusal = n; property = zeros }) × (property-taken s ≡ 0))
 unfolding Read.read property-read-refusal
 demand-1-read-property s =
     record {
-      number = refl;
-      refused = λ n e. (sym (read-refused s (suc n) zeros (sym e) (λ z. omega arith) refl), sym (taken-none s (λ z. omega (arith, e, z))));
+      first = refl;
+      alone = λ n e. (sym (read-refused s (suc n) zeros (sym e) (λ z. omega arith) refl), sym (taken-none s (λ z. omega (arith, e, z))));
     }
 
--- Of `write_property`: 1, 2, 3, 9; refused, no byte is written.
-pub record Demand-1-write-property (q : Words.Property) (buffer : List ℕ) : Type 0 where
-  pub number : Write.written q buffer .refusal ≡ first-of (property-refusal q) (given 9 (ltb (length buffer) (length (property-form q))))
-  pub refused : (n : ℕ) → Write.write-refusal q buffer ≡ suc n → (Write.written q buffer ≡ record { refusal = suc n; size = 0 }) × (Write.left q buffer ≡ buffer)
-
-pub demand-1-write-property : (q : Words.Property) (buffer : List ℕ) → Demand-1-write-property q buffer
+-- `write_property`: 1, 2, 3, 9; no byte is written.
+pub demand-1-write-property : (q : Words.Property) (buffer : List ℕ)
+    → Refuses (Write.written q buffer .refusal) (first-of (property-refusal q) (given 9 (ltb (length buffer) (length (property-form q)))))
+    (λ n. (Write.written q buffer ≡ record { refusal = n; size = 0 }) × (Write.left q buffer ≡ buffer))
 unfolding Write.written Write.write-refusal
 demand-1-write-property q buffer =
     record {
-      number = refl;
-      refused = λ n e. (sym (written-refused q buffer (suc n) (sym e) (λ z. omega arith)), sym (left-refused q buffer (λ z. omega (arith, e, z))));
+      first = refl;
+      alone = λ n e. (sym (written-refused q buffer (suc n) (sym e) (λ z. omega arith)), sym (left-refused q buffer (λ z. omega (arith, e, z))));
     }
 
--- Of `read_record` and `record_rest`: 7, 8, 4; refused, zeros, and no byte is taken.
-pub record Demand-1-read-record (s : List ℕ) (before : ℕ) : Type 0 where
-  pub number : read-refusal s before
-      ≡ first-of (given 7 (ltb (length s) 6))
-      (first-of (given 8 (broken (field s 0 2) (field s 2 6) (not (eqb (field s 8 40) 0)))) (given 4 (stamp-above (before + field s 8 40) before)))
-  pub refused : (n : ℕ) → read-refusal s before ≡ suc n → (record-answer s before ≡ Record.refused (suc n)) × (bytes-read s before ≡ 0)
-
-pub demand-1-read-record : (s : List ℕ) (before : ℕ) → Demand-1-read-record s before
+-- `read_record` with `record_rest`: 7, 8, 4; zeros, and no byte is taken.
+pub demand-1-read-record : (s : List ℕ) (before : ℕ)
+    → Refuses (record-answer s before .refusal)
+    (first-of (given 7 (ltb (length s) 6))
+    (first-of (given 8 (broken (field s 0 2) (field s 2 6) (not (eqb (field s 8 40) 0)))) (given 4 (stamp-above (before + field s 8 40) before))))
+    (λ n. (record-answer s before ≡ Record.refused n) × (bytes-read s before ≡ 0))
 unfolding read-refusal fields-refusal
-demand-1-read-record s before = record { number = refl; refused = record-refused s before }
+demand-1-read-record s before = record { first = refusal-of-record s before; alone = λ n e. record-refused s before n (sym (refusal-of-record s before) ∙ e) }
 
--- Of `write_record`: 8, 3, 4, 5, 9; refused, no byte is written.
-pub record Demand-1-write-record (kind action stamp before : ℕ) (buffer : List ℕ) : Type 0 where
-  pub number : write-refusal kind action stamp before (length buffer)
-      ≡ first-of (given 8 (broken kind action (not (eqb stamp before))))
-      (first-of (given 3 (ltb 63 action)) (first-of (given 4 (stamp-above stamp before)) (first-of (given 5 (ltb stamp before)) (given 9 (ltb (length buffer) 6)))))
-  pub refused : (n : ℕ) → write-refusal kind action stamp before (length buffer) ≡ suc n → Record.written kind action stamp before buffer ≡ buffer
-
-pub demand-1-write-record : (kind action stamp before : ℕ) (buffer : List ℕ) → Demand-1-write-record kind action stamp before buffer
+-- `write_record`: 8, 3, 4, 5, 9; no byte is written.
+pub demand-1-write-record : (kind action stamp before : ℕ) (buffer : List ℕ)
+    → Refuses (write-refusal kind action stamp before (length buffer))
+    (first-of (given 8 (broken kind action (not (eqb stamp before))))
+    (first-of (given 3 (ltb 63 action)) (first-of (given 4 (stamp-above stamp before)) (first-of (given 5 (ltb stamp before)) (given 9 (ltb (length buffer) 6))))))
+    (λ n. Record.written kind action stamp before buffer ≡ buffer)
 unfolding write-refusal
-demand-1-write-record kind action stamp before buffer = record { number = refl; refused = record-not-written kind action stamp before buffer }
+demand-1-write-record kind action stamp before buffer = record { first = refl; alone = record-not-written kind action stamp before buffer }
 
 -- ==== The calls that run, from a fresh session, for all call orders and all numbers
 module _ (p : Data.Property) (good : property-refusal (meant p) ≡ 0) where
@@ -234,51 +230,38 @@ pub record Demand-1-walk (s : Session) (bytes : List ℕ) (budget : ℕ) : Type 
 pub demand-1-walk : (s : Session) (bytes : List ℕ) (budget : ℕ) → Demand-1-walk s bytes budget
 demand-1-walk s bytes budget = record { named = walk-named s bytes budget; walked = walk-over s bytes budget }
 
--- ==== "0 input, 1 output, 2 gap, 3 end": the numbers of a record's kind; a record's call, of which walk and judge speak, is the call
--- whose record it is; and the arguments of `line` are those of a line.
-pub record Kinds : Type 0 where
-  pub input : (k t : ℕ) → kind-of (Entry.input k t) ≡ 0
-  pub output : (k t : ℕ) → kind-of (Entry.output k t) ≡ 1
-  pub gap : (t : ℕ) → kind-of (Entry.gap t) ≡ 2
-  pub end : Record.end ≡ 3
-  pub own-call : (e : Entry) → entry-of (entry-call e) ≡ e
-  pub line-input : (k t : ℕ) → entry-of (Call.line (line-of false k t)) ≡ Entry.input k t
-  pub line-output : (k t : ℕ) → entry-of (Call.line (line-of true k t)) ≡ Entry.output k t
+-- ==== What is called. "0 input, 1 output, 2 gap, 3 end":
+pub kinds : (k t : ℕ) → (kind-of (Entry.input k t) ≡ 0) × (kind-of (Entry.output k t) ≡ 1) × (kind-of (Entry.gap t) ≡ 2) × (Record.end ≡ 3)
+kinds k t = (refl, refl, refl, refl)
 
-pub kinds : Kinds
-kinds =
-    record {
-      input = λ k t. refl;
-      output = λ k t. refl;
-      gap = λ t. refl;
-      end = refl;
-      own-call = own-call;
-      line-input = λ k t. refl;
-      line-output = λ k t. refl;
-    }
-  where
-    own-call : (e : Entry) → entry-of (entry-call e) ≡ e
-    own-call (Entry.input k t) = refl
-    own-call (Entry.output k t) = refl
-    own-call (Entry.gap t) = refl
+-- a record's call, of which walk and judge speak, is the call whose record it is;
+pub own-call : (e : Entry) → entry-of (entry-call e) ≡ e
+own-call (Entry.input k t) = refl
+own-call (Entry.output k t) = refl
+own-call (Entry.gap t) = refl
 
--- `kept::step` is the step by value on the session lent: its promise is `stepped-of .. (call-of event)`, of which demand 1 speaks.
-pub demand-1-kept : (output : Bool) (action stamp : ℕ)
-    → (call-of (Kept.Line output action stamp) ≡ Call.line (line-of output action stamp)) × (call-of (Kept.Mark stamp) ≡ Call.mark (record { stamp = stamp }))
-demand-1-kept output action stamp = (refl, refl)
+-- the arguments of `line` are those of a line;
+pub line-called : (k t : ℕ) → (entry-of (Call.line (line-of false k t)) ≡ Entry.input k t) × (entry-of (Call.line (line-of true k t)) ≡ Entry.output k t)
+line-called k t = (refl, refl)
 
--- ==== The judge. What it takes is one property's whole packing and one trace's, the count is the number of its records, each of them
--- is taken from a fresh session, and the verdict's number is that of the one verdict that stands after them (`JudgeTaken`).
--- Otherwise the number is the first refusal met, in the order of document 01, and stands alone.
-pub record Demand-judge (property trace : List ℕ) : Type 0 where
-  pub taken : Bytes property → Bytes trace → judge-of property trace .refusal ≡ 0 → JudgeTaken property trace (judge-of property trace)
-  pub first : judge-of property trace .refusal
-      ≡ first-of (property-read-refusal property)
-      (first-of (given 8 (ltb (property-taken property) (length property))) (first-met (length trace) (meant (property-read property)) fresh trace))
-  pub alone : (n : ℕ) → judge-of property trace .refusal ≡ suc n → judge-of property trace ≡ record { refusal = suc n; verdict = 0; count = 0 }
+-- and `kept::step`, whose promise is `stepped-of .. (call-of event)`, is the step by value on the session lent.
+pub event-called : (output : Bool) (k t : ℕ)
+    → (call-of (Kept.Line output k t) ≡ Call.line (line-of output k t)) × (call-of (Kept.Mark t) ≡ Call.mark (record { stamp = t }))
+event-called output k t = (refl, refl)
 
-pub demand-judge : (property trace : List ℕ) → Demand-judge property trace
-demand-judge property trace = record { taken = judge-taken property trace; first = judge-first property trace; alone = judge-alone property trace }
+-- ==== The judge: the first refusal met, in the order of document 01, and it stands alone. What is taken is one property's whole
+-- packing and one trace's, the count is the number of its records, each of them is taken from a fresh session, and the verdict's
+-- number is that of the one verdict that stands after them (`JudgeTaken`).
+pub demand-1-judge : (property trace : List ℕ)
+    → Refuses (judge-of property trace .refusal)
+    (first-of (property-read-refusal property)
+    (first-of (given 8 (ltb (property-taken property) (length property))) (first-met (length trace) (meant (property-read property)) fresh trace)))
+    (λ n. judge-of property trace ≡ record { refusal = n; verdict = 0; count = 0 })
+demand-1-judge property trace = record { first = judge-first property trace; alone = judge-alone property trace }
+
+pub demand-judge : (property trace : List ℕ) → Bytes property → Bytes trace → judge-of property trace .refusal ≡ 0
+    → JudgeTaken property trace (judge-of property trace)
+demand-judge property trace = judge-taken property trace
 
 -- The C call's one number is taken apart into the judge's three: "a longer trace is refusal 9 here".
 pub record Demand-C (property trace : List ℕ) (number : ℕ) : Type 0 where

@@ -1,16 +1,30 @@
--- The packed forms: records refused, and records that a walk takes.
-use Prim.Native.Nat.{ℕ, suc, _+_, _*_, _<_}
+-- Fresh calls and the packed forms: what is refused, and records that a walk takes.
+use Prim.Native.Nat.{ℕ, zero, suc, _+_, _*_, _<_}
 use mathlib.Core.Path.{_≡_, refl, sym, _∙_, ap, ap₂, subst}
 use mathlib.Core.List.{List, [], _∷_, _++_}
 use native.Mathlib.Omega.{arith}
 use lib.ListN.{length, take, drop}
 use lib.Seq.{getD-drop, take-add}
+use Rattle.meaning.specs.Numbers.{property-refusal}
 use Rattle.meaning.proofs.Refusals.{unless-kept}
+use Rattle.property.specs.Meant.{meant}
+use Rattle.property.specs.declared.Property.{Property}
+use Rattle.session.specs.declared.Stepped.{Stepped}
+use Rattle.session.specs.Step.{fresh-of}
+use Rattle.session.proofs.Steps.{fresh-refused, fresh-taken}
 use Rattle.record_form.specs.Record.{Bytes, record-size, record-answer, read-refusal, bytes-read, write-refusal, written, answered}
 use Rattle.record_form.specs.Record
 use Rattle.record_form.specs.Trace.{Entry, kind-of, action-of, stamp-of}
 use Rattle.record_form.proofs.RoundTrip.{record-one-packing}
 use Rattle.demands.specs.Traces.{BeginsWith}
+
+-- the number of a fresh call is the property's refusal
+pub fresh-number : (p : Property) → fresh-of p .answer .refusal ≡ property-refusal (meant p)
+fresh-number p = go (property-refusal (meant p)) refl
+  where
+    go : (n : ℕ) → property-refusal (meant p) ≡ n → fresh-of p .answer .refusal ≡ n
+    go zero e = ap (λ (r : Stepped). r .answer .refusal) (fresh-taken p e)
+    go (suc n) e = ap (λ (r : Stepped). r .answer .refusal) (fresh-refused p (suc n) e (λ z. omega arith))
 
 pub record-refused : (s : List ℕ) (before n : ℕ) → read-refusal s before ≡ suc n → (record-answer s before ≡ Record.refused (suc n)) × (bytes-read s before ≡ 0)
 unfolding record-answer answered bytes-read
