@@ -1,12 +1,20 @@
 // The printing program but for the place that its input comes from: a packed property and records are read from a descriptor,
 // and the listing is written to standard output. What is written, the crate `printed` says.
 ghost use Prim.Native.Nat.{_≤_};
+ghost use mathlib.Core.Path.{_≡_};
+ghost use mathlib.Core.Bool.{true};
 ghost use lib.ListN.{length};
 ghost use Rattle.io.specs.Counts.{Counts};
+ghost use Rattle.matcher.specs.Table.{IsTable};
 ghost use Rattle.printout.specs.Text.{room};
+ghost use Rattle.session.specs.Lent.{in-arrays, Ready};
+use held::Status;
 use libc::STDOUT_FILENO;
 use printed::Printed;
+use printed::lent::Added;
 use printout::Text;
+use property::Property;
+use session::Session;
 
 fn write_front(bytes: &[u8], len: usize) -> bool
     requires { ⌜ len ≤ length (now bytes) ⌝ }
@@ -23,12 +31,12 @@ fn write(text: Text) -> bool
 }
 
 // Writes what was added, and answers whether the listing goes on. One that cannot be written does not.
-fn shown(p: Printed) -> bool
-    requires { ⌜ p .text .len ≤ room ⌝ }
+fn shown(text: Text, more: bool) -> bool
+    requires { ⌜ text .len ≤ room ⌝ }
+    ensures { λ r. ⌜ (r ≡ true → more ≡ true) ⌝ }
 {
-    let text = p.text;
     if write(text) {
-        return p.more;
+        return more;
     }
     false
 }
@@ -48,7 +56,7 @@ fn read_form(fd: i32, form: &mut [u8]) -> usize
 
 // Reads the property.
 fn begun(fd: i32) -> Printed
-    ensures { λ r. ⌜ r .text .len ≤ room ⌝ }
+    ensures { λ r. ⌜ (r .text .len ≤ room) × (r .more ≡ true → Ready (r .session)) ⌝ }
 {
     let mut form = [0u8; 71];
     let got = read_form(fd, &mut form);
@@ -56,28 +64,79 @@ fn begun(fd: i32) -> Printed
 }
 
 // Reads one record.
-fn next(fd: i32, p: Printed) -> Printed
-    ensures { λ r. ⌜ r .text .len ≤ room ⌝ }
+fn next(
+    fd: i32,
+    p: Property,
+    table: &[u8; 4257],
+    held: &mut [u64; 64],
+    acts: &mut [u8; 64],
+    masks: &mut [u64; 65],
+    marks: &mut [u64; 65],
+    status: Status,
+    count: u64,
+) -> Added
+    requires { ⌜ Ready (in-arrays p (now held) (now acts) (now masks) (now marks) status) × IsTable p (now table) ⌝ }
+    ensures { λ r. ⌜ (r .text .len ≤ room) × Ready (in-arrays p (now (held .exit)) (now (acts .exit)) (now (masks .exit)) (now (marks .exit)) (r .status)) ⌝ }
 {
-    let session = p.session;
     let mut bytes = [0u8; 6];
     let got = io::read_full(fd, &mut bytes);
-    printed::record(session, p.count, &bytes[..got])
+    printed::lent::record(
+        p,
+        table,
+        held,
+        acts,
+        masks,
+        marks,
+        status,
+        count,
+        &bytes[..got],
+    )
 }
 
-// Lists what comes from the descriptor, up to the end record or a refusal and no further. A proved loop has to end, and
+// Lists the records. The table is made once, and the arrays are lent from record to record. A proved loop has to end, and
 // nothing says that the input does: the loop counts its turns down, from a number that no run uses up.
+fn records(fd: i32, s: Session)
+    requires { ⌜ Ready s ⌝ }
+{
+    let p = s.property;
+    let shared = s.shared;
+    let row = s.row;
+    let table = matcher::table(p);
+    let mut held = shared.held;
+    let mut acts = shared.acts;
+    let mut masks = row.masks;
+    let mut marks = row.marks;
+    let mut status = shared.status;
+    let mut count = 0;
+    let mut turns = u64::MAX;
+    while turns > 0 {
+        let r = next(
+            fd,
+            p,
+            &table,
+            &mut held,
+            &mut acts,
+            &mut masks,
+            &mut marks,
+            status,
+            count,
+        );
+        if !shown(r.text, r.more) {
+            return;
+        }
+        status = r.status;
+        count = r.count;
+        turns -= 1;
+    }
+}
+
+// Lists what comes from the descriptor, up to the end record or a refusal and no further.
 pub fn list(fd: i32) {
     if !write(printout::header()) {
         return;
     }
-    let mut p = begun(fd);
-    let mut turns = u64::MAX;
-    while turns > 0 {
-        if !shown(p) {
-            return;
-        }
-        p = next(fd, p);
-        turns -= 1;
+    let b = begun(fd);
+    if shown(b.text, b.more) {
+        records(fd, b.session);
     }
 }

@@ -1,4 +1,4 @@
--- Each promise determines the whole answer: two results allowed by it are equal. Assumes nothing.
+-- Each promise determines the whole answer: two results allowed by it are equal.
 use Prim.Native.Nat.{ℕ, _≤_}
 use mathlib.Core.Path.{_≡_, sym, _∙_}
 use mathlib.Core.List.{List, [], _∷_}

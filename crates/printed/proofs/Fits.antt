@@ -1,7 +1,8 @@
--- Whatever the input, a text that is added to the listing fits its room: what a caller needs to write it out. Assumes nothing.
+-- Whatever the input, a text that is added to the listing fits its room: what a caller needs to write it out.
 use Prim.Native.Nat.{ℕ, zero, suc, _≤_}
+use mathlib.Core.Path.{subst}
 use mathlib.Core.Bool.{Bool, true, false, cond}
-use mathlib.Core.List.{List, []}
+use mathlib.Core.List.{List}
 use native.Mathlib.Omega.{arith}
 use lib.ListN.{length}
 use Rattle.meaning.specs.Calls.{Call}
@@ -11,7 +12,10 @@ use Rattle.property_form.specs.Read.{read}
 use Rattle.walk.specs.Walk.{One, one-of}
 use Rattle.printout.specs.Text.{room, stop-text}
 use Rattle.printout.proofs.Fits.{text-len, line-fits, end-fits, stop-fits}
-use Rattle.printed.specs.Printed.{one-after, call-text, last-line, by-one, printed-of, opening-text, begun-of}
+use Rattle.printed.specs.declared.Printed.{Printed}
+use Rattle.printed.specs.declared.lent.Added.{Added}
+use Rattle.printed.specs.Lent.{Adds}
+use Rattle.printed.specs.Printed.{call-text, last-line, by-one, printed-of, opening-text, begun-of}
 
 call-fits : (number : ℕ) (c : Call) (after : Session) → length (call-text number c after) ≤ room
 unfolding call-text
@@ -31,6 +35,10 @@ printed-fits s count bytes = go (out-of-range s)
     go : (t : Bool) → cond t (last-line s count (stop-text count 10)) (by-one s count (one-of s bytes)) .text .len ≤ room
     go true = text-len _ (stop-fits count 10)
     go false = by-one-fits s count (one-of s bytes)
+
+-- and what a record on lent arrays adds
+pub added-fits : {s after : Session} {count : ℕ} {bytes : List ℕ} {r : Added} → Adds s count bytes r after → r .text .len ≤ room
+added-fits {s} {after} {count} {bytes} h = subst (λ (p : Printed). p .text .len ≤ room) (h .listed) (by-one-fits s count (one-of s bytes))
 
 opening-fits : (n : ℕ) → length (opening-text n) ≤ room
 opening-fits zero = omega arith

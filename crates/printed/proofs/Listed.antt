@@ -1,25 +1,29 @@
--- What a record adds to the listing, by what it is read as and what it does to the session. Assumes nothing.
-use Prim.Native.Nat.{ℕ, zero, suc, _+_, _%_, _^_}
-use mathlib.Core.Path.{_≡_, refl, sym, _∙_, ap}
+-- What a record adds to the listing, by what it is read as and what it does to the session.
+use Prim.Native.Nat.{ℕ, zero, suc}
+use mathlib.Core.Path.{_≡_, refl, sym, _∙_, ap, subst}
 use mathlib.Core.Bool.{Bool, true, false, cond}
 use mathlib.Core.List.{List, []}
-use native.Mathlib.Omega.{arith}
-use Rattle.meaning.specs.Calls.{Call}
+use Rattle.meaning.specs.Calls.{Call, mark-at, unless-refused}
 use Rattle.property.specs.Meant.{action-of}
-use Rattle.record_form.specs.Record.{gap, numbers, case-by, record-answer, IsRead}
-use Rattle.record_form.specs.Record
+use Rattle.record_form.specs.Record.{gap, IsRead}
+use Rattle.record_form.specs.ReadAs.{ReadAs, case-as}
 use Rattle.record_form.specs.declared.RecordRead.{RecordRead}
-use Rattle.record_form.specs.declared.RecordRead.the-variants.{Input, Output, Gap, End, Refused}
-use Rattle.cuts.specs.Arrays.{number-of, line-of}
+use Rattle.record_form.specs.declared.RecordRead.the-variants.{End, Refused}
+use Rattle.held.specs.declared.Status.{Status}
+use Rattle.cuts.specs.Arrays.{number-of}
+use Rattle.cuts.specs.Steps.{line-of}
 use Rattle.session.specs.declared.Session.{Session}
 use Rattle.session.specs.declared.Stepped.{Stepped}
-use Rattle.session.specs.Record.{out-of-range}
+use Rattle.session.specs.declared.lent.Told.{Told}
+use Rattle.session.specs.Record.{latest-of, out-of-range}
 use Rattle.session.specs.Step.{stepped-of}
-use Rattle.walk.specs.Walk.{One, one-call, try-call, one-kind, one-read, one-of}
-use Rattle.printout.specs.declared.Text.{Text}
+use Rattle.session.specs.Lent.{Ready, Advanced}
+use Rattle.walk.specs.Walk.{one-call, try-call, one-read, one-of}
+use Rattle.walk.proofs.Dids.{refused-stays, one-known}
 use Rattle.printout.specs.Text.{line-text, end-text, stop-text, text-of}
-use Rattle.printed.specs.declared.Printed.{Printed}
-use Rattle.printed.specs.Printed.{one-after, kind-of, call-text, standing, last-line, by-one, printed-of, opening-text}
+use Rattle.printed.specs.declared.lent.Added.{Added}
+use Rattle.printed.specs.Printed.{one-after, kind-of, call-text, last-line, by-one, printed-of, opening-text}
+use Rattle.printed.specs.Lent.{last-added, call-added, in-session, Adds}
 use Rattle.printed.proofs.Standing.{AsAnswered, line-answered, AsBlind, mark-blind}
 
 -- ---- refusal 10 first
@@ -43,33 +47,6 @@ stop-opens (suc n) h = refl
 
 -- ---- a call
 
-pub call-refused : (s : Session) (count : ℕ) (c : Call) (r : Stepped) → r ≡ stepped-of s c → (r .answer .refusal ≡ 0 → ⊥)
-    → last-line s count (stop-text count (r .answer .refusal)) ≡ by-one s count (try-call s c)
-call-refused s count c r e h =
-    shown (r .answer .refusal) h ∙ ap (λ (x : Stepped). by-one s count (one-call s c (x .answer .refusal))) e
-  where
-    shown : (n : ℕ) → (n ≡ 0 → ⊥) → last-line s count (stop-text count n) ≡ by-one s count (one-call s c n)
-    shown zero k = absurd (k refl)
-    shown (suc n) k = unfold one-call by-one in refl
-
--- a call that is taken, by the line that is printed for it
-call-taken : (s : Session) (count : ℕ) (c : Call) (r : Stepped) (number : ℕ) (text : Text) → r ≡ stepped-of s c → r .answer .refusal ≡ 0
-    → number ≡ (count + 1) % 2 ^ 64 → text ≡ text-of (call-text (one-after count) c (stepped-of s c .session))
-    → _≡_ {A = Printed} (record { text = text; session = r .session; count = number; more = true }) (by-one s count (try-call s c))
-call-taken s count c r number text e z n t =
-    (λ i. record { text = t i; session = e i .session; count = counted i; more = true })
-    ∙ shown
-    ∙ ap (λ (m : ℕ). by-one s count (one-call s c m)) (sym z ∙ ap (λ (x : Stepped). x .answer .refusal) e)
-  where
-    counted : number ≡ one-after count
-    counted = unfold one-after in n
-
-    shown : _≡_ {A = Printed} (record { text = text-of (call-text (one-after count) c (stepped-of s c .session)); session = stepped-of s c .session; count = one-after count; more = true }) (by-one s count (one-call s c 0))
-    shown = unfold one-call by-one in refl
-
-is-none : (s : Session) (c : Call) (r : Stepped) → r ≡ stepped-of s c → r .answer .refusal ≡ 0 → stepped-of s c .answer .refusal ≡ 0
-is-none s c r e z = sym (ap (λ (x : Stepped). x .answer .refusal) e) ∙ z
-
 kind-same : (output : Bool) (action : ℕ) → cond output 1 0 ≡ kind-of (action-of output action)
 kind-same true action = refl
 kind-same false action = refl
@@ -78,79 +55,97 @@ number-same : (output : Bool) (action : ℕ) → action ≡ number-of (action-of
 number-same true action = refl
 number-same false action = refl
 
-pub line-taken : (s : Session) (count : ℕ) (output : Bool) (action stamp : ℕ) (r : Stepped) (number kind : ℕ) (text : Text)
-    → out-of-range s ≡ false → r ≡ stepped-of s (Call.line (line-of output action stamp)) → r .answer .refusal ≡ 0
-    → number ≡ (count + 1) % 2 ^ 64 → kind ≡ cond output 1 0 → text ≡ text-of (line-text number kind action stamp (r .answer .verdict) (r .answer .open_count))
-    → _≡_ {A = Printed} (record { text = text; session = r .session; count = number; more = true }) (by-one s count (try-call s (Call.line (line-of output action stamp))))
-line-taken s count output action stamp r number kind text fits e z n k t =
-    call-taken s count (Call.line (line-of output action stamp)) r number text e z n (t ∙ ap text-of same)
+added-status : (told : Told) (count : ℕ) (line : List ℕ) → call-added told count line .status ≡ told .status
+added-status told count line = go (told .answer .refusal)
   where
-    after : AsAnswered (stepped-of s (Call.line (line-of output action stamp)))
-    after = line-answered s (line-of output action stamp) fits (is-none s (Call.line (line-of output action stamp)) r e z)
+    go : (n : ℕ)
+        → unless-refused {A = Added} n (record { text = text-of line; status = told .status; count = one-after count; more = true })
+        (last-added (told .status) count (stop-text count n)) .status ≡ told .status
+    go zero = refl
+    go (suc n) = refl
 
-    verdict : r .answer .verdict ≡ standing (stepped-of s (Call.line (line-of output action stamp)) .session)
-    verdict = ap (λ (x : Stepped). x .answer .verdict) e ∙ after .verdict
-
-    counted : r .answer .open_count ≡ stepped-of s (Call.line (line-of output action stamp)) .session .count
-    counted = ap (λ (x : Stepped). x .answer .open_count) e ∙ after .counted
-
-    same : line-text number kind action stamp (r .answer .verdict) (r .answer .open_count)
-        ≡ call-text (one-after count) (Call.line (line-of output action stamp)) (stepped-of s (Call.line (line-of output action stamp)) .session)
-    same = unfold call-text one-after in (λ i. line-text (n i) ((k ∙ kind-same output action) i) (number-same output action i) stamp (verdict i) (counted i))
-
-pub mark-taken : (s : Session) (count stamp : ℕ) (r : Stepped) (number : ℕ) (text : Text)
-    → r ≡ stepped-of s (Call.mark stamp) → r .answer .refusal ≡ 0
-    → number ≡ (count + 1) % 2 ^ 64 → text ≡ text-of (line-text number gap 0 stamp 3 0)
-    → _≡_ {A = Printed} (record { text = text; session = r .session; count = number; more = true }) (by-one s count (try-call s (Call.mark stamp)))
-mark-taken s count stamp r number text e z n t = call-taken s count (Call.mark stamp) r number text e z n (t ∙ ap text-of same)
-  where
-    after : AsBlind (stepped-of s (Call.mark stamp) .session)
-    after = mark-blind s stamp (is-none s (Call.mark stamp) r e z)
-
-    same : line-text number gap 0 stamp 3 0 ≡ call-text (one-after count) (Call.mark stamp) (stepped-of s (Call.mark stamp) .session)
-    same = unfold call-text one-after in (λ i. line-text (n i) gap 0 stamp (after .verdict i) (after .counted i))
-
--- ---- the last line
-
-pub end-listed : (s : Session) (count : ℕ) → last-line s count (end-text count) ≡ by-one s count One.ended
-unfolding by-one
-end-listed s count = refl
-
-pub refused-listed : (s : Session) (count n : ℕ) → last-line s count (stop-text count n) ≡ by-one s count (One.refused n)
-unfolding by-one
-refused-listed s count n = refl
-
--- ---- what the reader took
-
-module _ (s : Session) (bytes : List ℕ) (r : RecordRead) (h : IsRead bytes (s .latest) r) where
-  one-by : (a : Record.Answer) → numbers r ≡ a → one-of s bytes ≡ one-read s (a .refusal) (a .kind) (a .action) (a .stamp)
-  one-by a e = ap (λ (x : Record.Answer). one-read s (x .refusal) (x .kind) (x .action) (x .stamp)) (sym (h .in-numbers) ∙ e)
-
-  pub is-end : (t : ℕ) → r ≡ End t → one-of s bytes ≡ One.ended
-  is-end t e = one-by (numbers (End t)) (ap numbers e) ∙ shown
+module _ (s : Session) (count : ℕ) (bytes : List ℕ) (r : RecordRead) (h : IsRead bytes (latest-of s) r) where
+  -- a record that is a call, by the line that is printed if it is taken; `made` is the session of the arrays after it
+  call-adds : (c : Call) (x : RecordRead) → r ≡ x → case-as x ≡ ReadAs.call c → (told : Told) (made : Status → Session) (line : List ℕ) → Advanced s c (told .answer) (made (told .status))
+      → (stepped-of s c .answer .refusal ≡ 0 → line ≡ call-text (one-after count) c (stepped-of s c .session))
+      → (a : Added) → a ≡ call-added told count line → Adds s count bytes a (made (a .status))
+  call-adds c x e k told made line led shows a is =
+      subst (λ (b : Added). Adds s count bytes b (made (b .status))) (sym is)
+      (subst (λ (t : Status). Adds s count bytes (call-added told count line) (made t)) (sym (added-status told count line))
+      (record {
+        listed = ap (by-one s count) (one-known s bytes r h x e ∙ ap (one-read s) k ∙ tried) ∙ go (stepped-of s c .answer .refusal) refl ∙ ap (λ (n : ℕ). in-session (added n) after) number;
+        ready = led .ready;
+      }))
     where
-      shown : one-read s 0 3 0 t ≡ One.ended
-      shown = unfold one-read one-kind in refl
+      after : Session
+      after = made (told .status)
 
-  pub is-refused : (n : ℕ) → r ≡ Refused n → one-of s bytes ≡ One.refused n
-  is-refused n e = one-by (numbers (Refused n)) (ap numbers e) ∙ shown n (positive n e)
+      tried : one-read s (ReadAs.call c) ≡ try-call s c
+      tried = unfold one-read in refl
+
+      number : stepped-of s c .answer .refusal ≡ told .answer .refusal
+      number = ap (λ (y : Stepped). y .answer .refusal) (led .stepped)
+
+      same : stepped-of s c .session ≡ after
+      same = ap (λ (y : Stepped). y .session) (led .stepped)
+
+      added : ℕ → Added
+      added n = unless-refused n (record { text = text-of line; status = told .status; count = one-after count; more = true }) (last-added (told .status) count (stop-text count n))
+
+      go : (n : ℕ) → stepped-of s c .answer .refusal ≡ n → by-one s count (one-call s c n) ≡ in-session (added n) after
+      go zero z = unfold one-call by-one in (λ i. record { text = text-of (sym (shows z) i); session = same i; count = one-after count; more = true })
+      go (suc n) z = unfold one-call by-one in (ap (λ (y : Session). last-line y count (stop-text count (suc n))) (sym (refused-stays s c n z) ∙ same))
+
+  pub line-adds : (output : Bool) (action stamp : ℕ) (x : RecordRead) → r ≡ x → case-as x ≡ ReadAs.call (Call.line (line-of output action stamp))
+      → (told : Told) (made : Status → Session) → Advanced s (Call.line (line-of output action stamp)) (told .answer) (made (told .status))
+      → (a : Added) → a ≡ call-added told count (line-text (one-after count) (cond output 1 0) action stamp (told .answer .verdict) (told .answer .open_count))
+      → Adds s count bytes a (made (a .status))
+  line-adds output action stamp x e k told made led = call-adds c x e k told made _ led shows
     where
-      shown : (m : ℕ) → (m ≡ 0 → ⊥) → one-read s m 0 0 0 ≡ One.refused m
-      shown zero k = absurd (k refl)
-      shown (suc m) k = unfold one-read in refl
+      c : Call
+      c = Call.line (line-of output action stamp)
 
-      no-case : (k a t m : ℕ) → case-by 0 k a t ≡ Refused m → _≡_ {A = ℕ} 0 1
-      no-case zero a t m q = unfold case-by in (cc q)
-      no-case (suc zero) a t m q = unfold case-by in (cc q)
-      no-case (suc (suc zero)) a t m q = unfold case-by in (cc q)
-      no-case (suc (suc (suc k))) a t m q = unfold case-by in (cc q)
+      shows : stepped-of s c .answer .refusal ≡ 0
+          → line-text (one-after count) (cond output 1 0) action stamp (told .answer .verdict) (told .answer .open_count) ≡ call-text (one-after count) c (stepped-of s c .session)
+      shows z = shown (line-answered s (line-of output action stamp) z)
+        where
+          shown : AsAnswered (stepped-of s c)
+              → line-text (one-after count) (cond output 1 0) action stamp (told .answer .verdict) (told .answer .open_count) ≡ call-text (one-after count) c (stepped-of s c .session)
+          shown stands =
+              unfold call-text in
+              (λ i. line-text (one-after count) (kind-same output action i) (number-same output action i) stamp
+              ((ap (λ (y : Stepped). y .answer .verdict) (sym (led .stepped)) ∙ stands .verdict) i)
+              ((ap (λ (y : Stepped). y .answer .open_count) (sym (led .stepped)) ∙ stands .counted) i))
 
-      positive : (m : ℕ) → r ≡ Refused m → m ≡ 0 → ⊥
-      positive m q z =
-          let a : Record.Answer = record-answer bytes (s .latest) in
-          let none : a .refusal ≡ 0 = sym (ap (λ (x : Record.Answer). x .refusal) (h .in-numbers)) ∙ ap (λ (x : RecordRead). numbers x .refusal) q ∙ z in
-          let c : case-by 0 (a .kind) (a .action) (a .stamp) ≡ Refused m =
-          ap (λ (x : ℕ). case-by x (a .kind) (a .action) (a .stamp)) (sym none) ∙ sym (h .answer) ∙ q in
-          let e′ : _≡_ {A = ℕ} 0 1 = no-case (a .kind) (a .action) (a .stamp) m c in
-          let f : ⊥ = omega arith in
-          f
+  pub mark-adds : (stamp : ℕ) (x : RecordRead) → r ≡ x → case-as x ≡ ReadAs.call (mark-at stamp)
+      → (told : Told) (made : Status → Session) → Advanced s (mark-at stamp) (told .answer) (made (told .status))
+      → (a : Added) → a ≡ call-added told count (line-text (one-after count) gap 0 stamp 3 0) → Adds s count bytes a (made (a .status))
+  mark-adds stamp x e k told made led = call-adds (mark-at stamp) x e k told made _ led shows
+    where
+      shows : stepped-of s (mark-at stamp) .answer .refusal ≡ 0
+          → line-text (one-after count) gap 0 stamp 3 0 ≡ call-text (one-after count) (mark-at stamp) (stepped-of s (mark-at stamp) .session)
+      shows z =
+          let stands : AsBlind (stepped-of s (mark-at stamp) .session) = mark-blind s (record { stamp = stamp }) z in
+          unfold call-text in (λ i. line-text (one-after count) gap 0 stamp (stands .verdict i) (stands .counted i))
+
+  -- ---- the last line
+
+  last-adds : Ready s → (made : Status → Session) → made (s .shared .status) ≡ s → (line : List ℕ) → by-one s count (one-of s bytes) ≡ last-line s count line
+      → (a : Added) → a ≡ last-added (s .shared .status) count line → Adds s count bytes a (made (a .status))
+  last-adds ready made own line e a is =
+      subst (λ (b : Added). Adds s count bytes b (made (b .status))) (sym is)
+      (subst (Adds s count bytes (last-added (s .shared .status) count line)) (sym own) (record { listed = e; ready = ready }))
+
+  pub end-adds : Ready s → (made : Status → Session) → made (s .shared .status) ≡ s → (t : ℕ) → r ≡ End t
+      → (a : Added) → a ≡ last-added (s .shared .status) count (end-text count) → Adds s count bytes a (made (a .status))
+  end-adds ready made own t e = last-adds ready made own (end-text count) (ap (by-one s count) (one-known s bytes r h (End t) e) ∙ shown)
+    where
+      shown : by-one s count (one-read s ReadAs.end) ≡ last-line s count (end-text count)
+      shown = unfold one-read by-one in refl
+
+  pub refused-adds : Ready s → (made : Status → Session) → made (s .shared .status) ≡ s → (n : ℕ) → r ≡ Refused n
+      → (a : Added) → a ≡ last-added (s .shared .status) count (stop-text count n) → Adds s count bytes a (made (a .status))
+  refused-adds ready made own n e = last-adds ready made own (stop-text count n) (ap (by-one s count) (one-known s bytes r h (Refused n) e) ∙ shown)
+    where
+      shown : by-one s count (one-read s (ReadAs.refused n)) ≡ last-line s count (stop-text count n)
+      shown = unfold one-read by-one in refl

@@ -5,15 +5,12 @@ use mathlib.Core.List.{List, []}
 use lib.Dec.{eqb}
 use Rattle.meaning.specs.Words.{Action}
 use Rattle.meaning.specs.Calls.{Call}
-use Rattle.meaning.specs.Node.{verdict-number}
-use Rattle.meaning.specs.Step.{lengths, cuts-verdict}
-use Rattle.property.specs.Meant.{meant}
 use Rattle.property_form.specs.Read.{read}
 use Rattle.record_form.specs.Record.{input, output, gap}
 use Rattle.cuts.specs.Arrays.{number-of}
 use Rattle.session.specs.declared.Session.{Session}
-use Rattle.session.specs.Record.{cuts-of, out-of-range}
-use Rattle.session.specs.Step.{fresh-of}
+use Rattle.session.specs.Record.{count-of, out-of-range}
+use Rattle.session.specs.Step.{fresh-of, standing}
 use Rattle.walk.specs.Walk.{One, one-of}
 use Rattle.printout.specs.Text.{line-text, end-text, stop-text, text-of}
 use Rattle.printed.specs.declared.Printed.{Printed}
@@ -27,16 +24,12 @@ abbrev pub kind-of : Action → ℕ
 kind-of (Action.input k) = input
 kind-of (Action.output k) = output
 
--- The verdict that stands on a session.
-unfoldable pub standing : Session → ℕ
-standing s = verdict-number (cuts-verdict (meant (s .property)) (lengths (meant (s .property))) (cuts-of s))
-
 -- The line of a record that was taken as a call: "record number from 1; I, O or G; action; stamp; verdict after it; number
 -- open", the last two on the session after it.
 unfoldable pub call-text : ℕ → Call → Session → List ℕ
 call-text number (Call.line l) after =
-    line-text number (kind-of (l .action)) (number-of (l .action)) (l .stamp) (standing after) (after .count)
-call-text number (Call.mark g) after = line-text number gap 0 g (standing after) (after .count)
+    line-text number (kind-of (l .action)) (number-of (l .action)) (l .stamp) (standing after) (count-of after)
+call-text number (Call.mark g) after = line-text number gap 0 (g .stamp) (standing after) (count-of after)
 
 -- The listing ends with this line; the session and the count are as they were.
 abbrev pub last-line : Session → ℕ → List ℕ → Printed

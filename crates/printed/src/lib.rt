@@ -1,18 +1,14 @@
 // What the printing program adds to its listing: nothing or its last line for the property, and a line for each record.
+pub mod lent;
+
 ghost use mathlib.Core.Path.{_≡_};
-ghost use mathlib.Core.Bool.{false, cond};
 ghost use mathlib.Core.List.{List, [], _∷_};
 ghost use Prim.Native.Nat.{ℕ, _≤_};
-ghost use Rattle.meaning.specs.Calls.{Call};
-ghost use Rattle.cuts.specs.Arrays.{line-of};
 ghost use Rattle.property_form.specs.Form.{form-size};
 ghost use Rattle.property_form.specs.Read.{length-read};
-ghost use Rattle.printout.specs.Text.{text-of, stop-text};
-ghost use Rattle.session.specs.Record.{out-of-range};
-ghost use Rattle.walk.specs.Walk.{try-call};
-ghost use Rattle.printed.specs.Printed.{last-line, by-one, printed-of, opening-text, begun-of};
+ghost use Rattle.printout.specs.Text.{text-of};
+ghost use Rattle.printed.specs.Printed.{printed-of, opening-text, begun-of};
 use printout::Text;
-use record_form::RecordRead;
 use session::Session;
 
 // What one part of the input adds to the listing, and what the next part starts from.
@@ -25,94 +21,53 @@ pub struct Printed {
     pub more: bool,
 }
 
-// The listing ends with this line, and the session is left as it was.
-fn last(s: Session, count: u64, text: Text) -> Printed
-    ensures { λ r. ⌜ r ≡ record { text = text; session = s; count = count; more = false } ⌝ }
-{
-    Printed {
-        text: text,
-        session: s,
-        count: count,
-        more: false,
-    }
-}
-
-// The listing stops at a refusal.
-fn stopped(s: Session, count: u64, refusal: u64) -> Printed
-    ensures { λ r. ⌜ r ≡ last-line s count (stop-text count refusal) ⌝ }
-{
-    last(s, count, printout::stop(count, refusal))
-}
-
-fn kind_of(output: bool) -> u8
-    ensures { λ r. ⌜ r ≡ cond output 1 0 ⌝ }
-{
-    if output {
-        return 1;
-    }
-    0
-}
-
-// A record that is an input or an output.
-fn on_line(s: Session, count: u64, output: bool, action: u8, stamp: u64) -> Printed
-    requires { ⌜ out-of-range s ≡ false ⌝ }
-    ensures { λ r. ⌜ r ≡ by-one s count (try-call s (Call.line (line-of output action stamp))) ⌝ }
-{
-    let step = session::line(s, output, action, stamp);
-    let answer = step.answer;
-    if answer.refusal != 0 {
-        return stopped(s, count, answer.refusal);
-    }
-    let number = std::num::wrapping_add_u64(count, 1);
-    let session = step.session;
-    Printed {
-        text: printout::line(
-            number,
-            kind_of(output),
-            action,
-            stamp,
-            answer.verdict,
-            answer.open_count,
-        ),
-        session: session,
-        count: number,
-        more: true,
-    }
-}
-
-// A record that is a gap. Its answer has the verdict of the run that it closes; what stands after it is blind, with none open.
-fn on_mark(s: Session, count: u64, stamp: u64) -> Printed
-    ensures { λ r. ⌜ r ≡ by-one s count (try-call s (Call.mark stamp)) ⌝ }
-{
-    let step = session::mark(s, stamp);
-    let answer = step.answer;
-    if answer.refusal != 0 {
-        return stopped(s, count, answer.refusal);
-    }
-    let number = std::num::wrapping_add_u64(count, 1);
-    let session = step.session;
-    Printed {
-        text: printout::line(number, 2, 0, stamp, 3, 0),
-        session: session,
-        count: number,
-        more: true,
-    }
-}
-
 // The record at the front of the bytes, after `count` that were taken.
 pub fn record(s: Session, count: u64, bytes: &[u8]) -> Printed
     ensures { λ r. ⌜ r ≡ printed-of s count (now (bytes .entry)) ⌝ }
 {
     if session::unfit(s) {
-        return stopped(s, count, 10);
+        return Printed {
+            text: printout::stop(count, 10),
+            session: s,
+            count: count,
+            more: false,
+        };
     }
-    let read = record_form::read_record(bytes, s.latest);
-    match read {
-        RecordRead::Input(action, stamp) => on_line(s, count, false, action, stamp),
-        RecordRead::Output(action, stamp) => on_line(s, count, true, action, stamp),
-        RecordRead::Gap(stamp) => on_mark(s, count, stamp),
-        RecordRead::End(_) => last(s, count, printout::end(count)),
-        RecordRead::Refused(number) => stopped(s, count, number),
+    let p = s.property;
+    let shared = s.shared;
+    let row = s.row;
+    let table = matcher::table(p);
+    let mut held = shared.held;
+    let mut acts = shared.acts;
+    let mut masks = row.masks;
+    let mut marks = row.marks;
+    let status = shared.status;
+    session::lent::tidy(p, &mut held, &mut acts, &mut masks, &mut marks, status);
+    let r = lent::record(
+        p,
+        &table,
+        &mut held,
+        &mut acts,
+        &mut masks,
+        &mut marks,
+        status,
+        count,
+        bytes,
+    );
+    let text = r.text;
+    if r.more {
+        return Printed {
+            text: text,
+            session: session::made(p, held, acts, masks, marks, r.status),
+            count: r.count,
+            more: true,
+        };
+    }
+    Printed {
+        text: text,
+        session: s,
+        count: r.count,
+        more: false,
     }
 }
 

@@ -1,9 +1,12 @@
--- `listing_shell::begun` meets its contract: what the property adds fits its room. Assumes nothing.
+-- `listing_shell::begun` meets its contract: what the property adds fits its room, and one that is taken has a session ready for records.
 use Prim.Native.Nat.{_≤_}
-use mathlib.Core.Path.{sym, subst}
+use mathlib.Core.Path.{_≡_, sym, subst}
+use mathlib.Core.Bool.{true}
+use Rattle.session.specs.Lent.{Ready}
 use Rattle.printout.specs.Text.{room}
 use Rattle.printed.specs.declared.Printed.{Printed}
 use Rattle.printed.proofs.Fits.{begun-fits}
+use Rattle.printed.proofs.Walks.{begins-ready}
 use borrow.Author.Needs.{needs}
 use Rattle.listing_shell.proofs.begun.Statement.{statement}
 use Rattle.listing_shell.proofs.begun.Tie as tie
@@ -24,7 +27,8 @@ begin-requires : tie.Need-begin-requires
 begin-requires c κs = search needs
 
 returns : tie.Need-returns
-returns c = subst (λ (p : Printed). p .text .len ≤ room) (sym (c .begin .ensures)) (begun-fits _)
+returns c =
+    subst (λ (p : Printed). (p .text .len ≤ room) × (p .more ≡ true → Ready (p .session))) (sym (c .begin .ensures)) (begun-fits _, begins-ready _)
 
 pub begun-spec : {M : Type 1} → statement M
 begun-spec =

@@ -1,70 +1,46 @@
--- `listing_shell::list` is safe and ends: each text fits its room, and the turns that are left are fewer each time. Assumes nothing.
+-- `listing_shell::list` is safe: the header fits its room, and records are read behind a property that was taken.
 use Prim.Native.Nat.{_≤_}
 use mathlib.Core.Path.{sym, subst}
-use native.Mathlib.Omega.{arith}
 use Rattle.printout.specs.declared.Text.{Text}
 use Rattle.printout.specs.Text.{room}
 use Rattle.printout.proofs.Fits.{text-len, header-fits}
+use borrow.Author.Needs.{needs}
 use Rattle.listing_shell.proofs.list.Statement.{statement}
 use Rattle.listing_shell.proofs.list.Tie as tie
 
-abbrev Inv-loop : tie.InvT-loop
-Inv-loop fd p₀ turns₀ p turns = p .text .len ≤ room
+header-requires : tie.Need-header-requires
+header-requires c κs = search needs
 
-abbrev μ-loop : tie.MeasureT-loop
-μ-loop fd p₀ turns₀ p turns = turns
-
-header-requires : tie.Need-header-requires Inv-loop μ-loop
-header-requires c κs = tt
-
-write-requires : tie.Need-write-requires Inv-loop μ-loop
+write-requires : tie.Need-write-requires
 write-requires c κs = subst (λ (t : Text). t .len ≤ room) (sym (c .header .ensures)) (text-len _ header-fits)
 
-returns : tie.Need-returns Inv-loop μ-loop
-returns c = tt
+returns : tie.Need-returns
+returns c = search needs
 
-begun-requires : tie.Need-begun-requires Inv-loop μ-loop
-begun-requires c κs = tt
+begun-requires : tie.Need-begun-requires
+begun-requires c κs = search needs
 
-loop-holds : tie.Need-loop-holds Inv-loop μ-loop
-loop-holds c = c .begun .ensures
+shown-requires : tie.Need-shown-requires
+shown-requires c κs = c .begun .ensures .0
 
-shown-requires : tie.Need-shown-requires Inv-loop μ-loop
-shown-requires c κs = c .before .loop .inv
+records-requires : tie.Need-records-requires
+records-requires c κs = c .before .before .begun .ensures .1 (c .before .shown .ensures (c .if2 .taken))
 
-returns-2 : tie.Need-returns-2 Inv-loop μ-loop
-returns-2 c = tt
+returns-2 : tie.Need-returns-2
+returns-2 c = search needs
 
-next-requires : tie.Need-next-requires Inv-loop μ-loop
-next-requires c κs = tt
-
-sub-turns : tie.Need-sub-turns Inv-loop μ-loop
-sub-turns c = omega arith
-
-loop-less : tie.Need-loop-less Inv-loop μ-loop
-loop-less c = omega arith
-
-loop-again : tie.Need-loop-again Inv-loop μ-loop
-loop-again c = c .next .ensures
-
-returns-3 : tie.Need-returns-3 Inv-loop μ-loop
-returns-3 c = tt
+returns-3 : tie.Need-returns-3
+returns-3 c = search needs
 
 pub list-spec : {M : Type 1} → statement M
 list-spec =
     tie.close
     (tie.spec
-    Inv-loop
-    μ-loop
     header-requires
     write-requires
     returns
     begun-requires
-    loop-holds
     shown-requires
+    records-requires
     returns-2
-    next-requires
-    sub-turns
-    loop-less
-    loop-again
     returns-3)

@@ -1,9 +1,5 @@
--- `listing_shell::next` meets its contract: what a record adds fits its room. Assumes nothing.
-use Prim.Native.Nat.{_≤_}
-use mathlib.Core.Path.{sym, subst}
-use Rattle.printout.specs.Text.{room}
-use Rattle.printed.specs.declared.Printed.{Printed}
-use Rattle.printed.proofs.Fits.{printed-fits}
+-- `listing_shell::next` meets its contract: what a record adds fits its room, and the arrays are ready for the next one.
+use Rattle.printed.proofs.Fits.{added-fits}
 use borrow.Author.Needs.{needs}
 use Rattle.listing_shell.proofs.next.Statement.{statement}
 use Rattle.listing_shell.proofs.next.Tie as tie
@@ -24,8 +20,7 @@ record-requires : tie.Need-record-requires
 record-requires c κs = search needs
 
 returns : tie.Need-returns
-returns c =
-    subst (λ (p : Printed). p .text .len ≤ room) (sym (c .«record» .ensures)) (printed-fits _ _ _)
+returns c = (added-fits (c .«record» .ensures), c .«record» .ensures .ready)
 
 pub next-spec : {M : Type 1} → statement M
 next-spec =

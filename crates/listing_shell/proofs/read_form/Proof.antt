@@ -1,4 +1,4 @@
--- `listing_shell::read_form` meets its contract: no form is longer than 71 bytes, and the first stands before the others. Assumes nothing.
+-- `listing_shell::read_form` meets its contract: no form is longer than 71 bytes, and the first stands before the others.
 use Prim.Native.Nat.{ℕ, _+_, _-_, _≤_, _<_}
 use mathlib.Core.List.{List, _++_}
 use native.Mathlib.Omega.{arith}
@@ -57,7 +57,8 @@ returns-2 : tie.Need-returns-2
 returns-2 c =
     let first = c .before .before .before .before .before .before .before .before .before .read-full .last .1 .0 in
     let rest = c .before .before .read-full2 in
-    part-counts (c .before .before .before .before .size .result - 1) (rest .result) (first ++ drop 1 (c .before .before .before .before .before .before .before .before .before .before .before .before .args .form .now)) (rest .last .1 .0)
+    let form = c .before .before .before .before .before .before .before .before .before .before .before .before .args .form .now in
+    part-counts (c .before .before .before .before .size .result - 1) (rest .result) (first ++ drop 1 form) (rest .last .1 .0)
     (slice-read-size (c .before .before .before .before .before))
     (rest .ensures .0)
 

@@ -1,4 +1,4 @@
--- `listing_shell::write` is safe: the text is no longer than its room. Assumes nothing.
+-- `listing_shell::write` is safe: the text is no longer than its room.
 use native.Mathlib.Omega.{arith}
 use borrow.Author.Needs.{needs}
 use Rattle.listing_shell.proofs.write.Statement.{statement}

@@ -1,4 +1,4 @@
--- `listing_shell::write_front` is safe: no more is written than there is. Assumes nothing.
+-- `listing_shell::write_front` is safe: no more is written than there is.
 use native.Mathlib.Omega.{arith}
 use Rattle.io.proofs.Counting.{counts}
 use borrow.Author.Needs.{needs}

@@ -1,4 +1,4 @@
--- `listings::main` is safe and ends: the arguments that are left are fewer each time. Assumes nothing.
+-- `listings::main` is safe and ends: the arguments that are left are fewer each time.
 use Prim.Native.Nat.{_-_}
 use native.Mathlib.Omega.{arith}
 use Rattle.listings.proofs.main.Statement.{statement}

@@ -1,4 +1,4 @@
--- `printed::begin` meets its contract: all is read off the property's reader. Assumes nothing.
+-- `printed::begin` meets its contract: all is read off the property's reader.
 use mathlib.Core.Path.{ap, _∙_}
 use lib.Dec.{eqb}
 use Rattle.property_form.specs.declared.PropertyRead.{PropertyRead}

@@ -1,4 +1,4 @@
--- `printed::nothing` meets its contract: 96 zeros are the room that no text leaves. Assumes nothing.
+-- `printed::nothing` meets its contract: 96 zeros are the room that no text leaves.
 use mathlib.Core.Path.{refl}
 use Rattle.printout.specs.Text.{text-of}
 use Rattle.printed.proofs.nothing.Statement.{statement}

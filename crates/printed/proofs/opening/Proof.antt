@@ -1,4 +1,4 @@
--- `printed::opening` meets its contract: the refusal decides. Assumes nothing.
+-- `printed::opening` meets its contract: the refusal decides.
 use mathlib.Core.Path.{_∙_}
 use Rattle.printed.proofs.Listed.{none-opens, stop-opens}
 use borrow.Author.Needs.{needs}

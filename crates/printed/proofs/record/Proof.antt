@@ -1,141 +1,104 @@
--- `printed::record` meets its contract: refusal 10, or what the reader answers, kind by kind. Assumes nothing.
+-- `printed::record` meets its contract: refusal 10, or the record on its arrays, tidied.
 use Prim.Native.Nat.{ℕ}
-use mathlib.Core.Path.{_≡_, sym, ap, _∙_}
-use mathlib.Core.Bool.{false}
+use mathlib.Core.Path.{_≡_, sym, ap, subst, _∙_}
+use mathlib.Core.Bool.{true, false}
 use mathlib.Core.List.{List}
-use Rattle.record_form.specs.declared.RecordRead.{RecordRead}
-use Rattle.printout.specs.declared.Text.{Text}
+use denote.Ref.{now}
 use Rattle.session.specs.declared.Session.{Session}
 use Rattle.session.specs.Record.{out-of-range}
-use Rattle.walk.specs.Walk.{One, one-of}
-use Rattle.walk.proofs.Dids.{was-input, was-output, was-gap}
-use Rattle.printed.specs.Printed.{by-one, printed-of}
-use Rattle.printed.proofs.Listed.{named, not-named, is-end, is-refused, end-listed, refused-listed}
+use Rattle.session.specs.Lent.{in-arrays, tidied, Ready}
+use Rattle.session.proofs.Range.{ranged}
+use Rattle.session.proofs.Ready.{tidied-ready}
+use Rattle.printout.specs.declared.Text.{Text}
+use Rattle.printed.specs.Lent.{Adds}
+use Rattle.printed.proofs.Listed.{named}
+use Rattle.printed.proofs.Tidied.{by-value-more, by-value-last}
 use borrow.Author.Needs.{needs}
 use Rattle.printed.proofs.record.Statement.{statement}
 use Rattle.printed.proofs.record.Tie as tie
 
--- the session, its bytes and what the reader answered
-abbrev S : tie.After-read-record → Session
-S c = c .before .before .before .before .args .s
+-- refusal 10 does not name the record
+fit : (e : tie.Else1) → out-of-range (e .before .before .before .args .s) ≡ false
+fit e = sym (e .before .unfit .ensures) ∙ e .if1 .left
 
-abbrev N : tie.After-read-record → ℕ
-N c = c .before .before .before .before .args .count
+-- from the tidied arrays back to where refusal 10 was passed, and what was given
+abbrev passed : tie.After-tidy → tie.Else1
+passed j = j .before .before .before .before .before .before .before .before .before .before .before .before .before .before
 
-abbrev B : tie.After-read-record → List ℕ
-B c = c .before .before .before .before .args .bytes .now
+abbrev given : tie.After-tidy → Session
+given j = passed j .before .before .before .args .s
 
-abbrev R : tie.After-read-record → RecordRead
-R c = c .read-record .result
+abbrev count : tie.After-tidy → ℕ
+count j = passed j .before .before .before .args .count
 
-fit : (c : tie.Else1) → out-of-range (c .before .before .before .args .s) ≡ false
-fit c = sym (c .before .unfit .ensures) ∙ c .if1 .left
+abbrev bytes : tie.After-tidy → List ℕ
+bytes j = now (passed j .before .before .before .args .bytes)
 
--- what the record does to the session is what it adds to the listing
-listed : (c : tie.After-read-record) {o : One} → one-of (S c) (B c) ≡ o → by-one (S c) (N c) o ≡ printed-of (S c) (N c) (B c)
-listed c e = ap (by-one (S c) (N c)) (sym e) ∙ sym (not-named (S c) (N c) (B c) (fit (c .before)))
+-- from the record on lent arrays back to the tidied ones, and the session after it
+abbrev start : tie.After-record → tie.After-tidy
+start k = k .before .before .before .before .before .before
+
+abbrev after : tie.After-record → Session
+after k =
+    let last = k .«record» .last .1 .1 in
+    in-arrays (given (start k) .property) (last .0) (last .1 .0) (last .1 .1 .0) (last .1 .1 .1 .0) (k .«record» .result .status)
+
+adds : (k : tie.After-record) → Adds (tidied (given (start k))) (count (start k)) (bytes (start k)) (k .«record» .result) (after k)
+adds k = subst (λ (x : Session). Adds x (count (start k)) (bytes (start k)) (k .«record» .result) (after k)) (start k .tidy .ensures) (k .«record» .ensures)
 
 unfit-requires : tie.Need-unfit-requires
 unfit-requires c κs = search needs
 
-stopped-requires : tie.Need-stopped-requires
-stopped-requires c κs = search needs
+stop-requires : tie.Need-stop-requires
+stop-requires c κs = search needs
 
 returns : tie.Need-returns
 returns c =
-    let a = c .before .before .before .before .args in
-    c .stopped .ensures ∙ sym (named (a .s) (a .count) (a .bytes .now) (sym (c .before .before .unfit .ensures) ∙ c .before .if1 .taken))
+    let e = c .before in
+    let a = e .before .before .before .args in
+    ap (λ (t : Text). record { text = t; session = a .s; count = a .count; more = false }) (c .stop .ensures)
+    ∙ sym (named (a .s) (a .count) (now (a .bytes)) (sym (e .before .unfit .ensures) ∙ e .if1 .taken))
 
-read-record-requires : tie.Need-read-record-requires
-read-record-requires c κs = search needs
+table-requires : tie.Need-table-requires
+table-requires c κs =
+    ranged (c .before .before .before .before .before .before .args .s) (fit (c .before .before .before)) .formed
 
-enum-known-read : tie.Need-enum-known-read
-enum-known-read c = search needs
+tidy-requires : tie.Need-tidy-requires
+tidy-requires c κs = (
+  record { held-long = search needs; acts-long = search needs; masks-long = search needs; marks-long = search needs },
+  fit (c .before .before .before .before .before .before .before .before .before .before .before .before .before),
+)
 
-on-line-requires : tie.Need-on-line-requires
-on-line-requires c κs = fit (c .before .before .before .before)
+record-requires : tie.Need-record-requires
+record-requires c κs =
+    let j = c .before .before .before .before .before in
+    (subst Ready (sym (j .tidy .ensures)) (tidied-ready (given j) (fit (passed j))), j .before .before .before .before .before .before .before .before .before .before .table .ensures)
 
-enum-known-read-2 : tie.Need-enum-known-read-2
-enum-known-read-2 c = search needs
-
-on-line-requires-2 : tie.Need-on-line-requires-2
-on-line-requires-2 c κs = fit (c .before .before .before .before)
-
-enum-known-read-3 : tie.Need-enum-known-read-3
-enum-known-read-3 c = search needs
-
-on-mark-requires : tie.Need-on-mark-requires
-on-mark-requires c κs = search needs
-
-enum-told : tie.Need-enum-told
-enum-told c = search needs
-
-end-requires : tie.Need-end-requires
-end-requires c κs = search needs
-
-last-requires : tie.Need-last-requires
-last-requires c κs = search needs
-
-enum-known-read-4 : tie.Need-enum-known-read-4
-enum-known-read-4 c = search needs
-
-stopped-requires-2 : tie.Need-stopped-requires-2
-stopped-requires-2 c κs = search needs
+made-requires : tie.Need-made-requires
+made-requires c κs = search needs
 
 returns-2 : tie.Need-returns-2
 returns-2 c =
-    let read = c .before .before .before .before in
-    c .on-line .ensures
-    ∙ listed read (was-input (S read) (B read) (R read) (read .read-record .ensures) _ _ (c .before .before .read .given .1) .0)
+    let k = c .before .before .before in
+    let r = k .«record» .result in
+    ap (λ (x : Session). record { text = r .text; session = x; count = r .count; more = true }) (c .made .ensures)
+    ∙ by-value-more (given (start k)) (fit (passed (start k))) (count (start k)) (bytes (start k)) r (after k) (adds k) (c .before .if2 .taken)
 
 returns-3 : tie.Need-returns-3
 returns-3 c =
-    let read = c .before .before .before .before in
-    c .on-line2 .ensures
-    ∙ listed read (was-output (S read) (B read) (R read) (read .read-record .ensures) _ _ (c .before .before .read2 .given .1) .0)
-
-returns-4 : tie.Need-returns-4
-returns-4 c =
-    let read = c .before .before .before .before in
-    c .on-mark .ensures
-    ∙ listed read (was-gap (S read) (B read) (R read) (read .read-record .ensures) _ (c .before .before .read3 .given .1) .0)
-
-returns-5 : tie.Need-returns-5
-returns-5 c =
-    let read = c .before .before .before .before in
-    c .last .ensures
-    ∙ ap (λ (t : Text). record { text = t; session = S read; count = N read; more = false }) (c .before .end .ensures)
-    ∙ end-listed (S read) (N read)
-    ∙ listed read (is-end (S read) (B read) (R read) (read .read-record .ensures) _ (c .before .before .enum-told .given .1))
-
-returns-6 : tie.Need-returns-6
-returns-6 c =
-    let read = c .before .before .before .before in
-    c .stopped2 .ensures
-    ∙ refused-listed (S read) (N read) _
-    ∙ listed read (is-refused (S read) (B read) (R read) (read .read-record .ensures) _ (c .before .before .read4 .given .1))
+    let k = c .before .before in
+    by-value-last (given (start k)) (fit (passed (start k))) (count (start k)) (bytes (start k)) (k .«record» .result) (after k) (adds k) (c .if2 .left)
 
 pub record-spec : {M : Type 1} → statement M
 record-spec =
     tie.close
     (tie.spec
     unfit-requires
-    stopped-requires
+    stop-requires
     returns
-    read-record-requires
-    enum-known-read
-    on-line-requires
-    enum-known-read-2
-    on-line-requires-2
-    enum-known-read-3
-    on-mark-requires
-    enum-told
-    end-requires
-    last-requires
-    enum-known-read-4
-    stopped-requires-2
+    table-requires
+    tidy-requires
+    record-requires
+    made-requires
     returns-2
-    returns-3
-    returns-4
-    returns-5
-    returns-6)
+    returns-3)

@@ -1,4 +1,4 @@
--- `printed::size` meets its contract: the length field stands in the first byte, and six bits are a number below 64. Assumes nothing.
+-- `printed::size` meets its contract: the length field stands in the first byte, and six bits are a number below 64.
 use Prim.Native.Nat.{ℕ, _<_}
 use mathlib.Core.Path.{_≡_, refl, ap, _∙_}
 use mathlib.Core.List.{List, [], _∷_}

@@ -1,0 +1,40 @@
+-- `printed::lent::on_mark` meets its contract: the call is refused, or the session after it is blind with none open.
+use mathlib.Core.Path.{sym, _∙_}
+use mathlib.Core.Bool.{true}
+use Rattle.meaning.proofs.Refusals.{unless-taken, unless-kept}
+use Rattle.record_form.specs.Record.{gap}
+use Rattle.printout.specs.Text.{line-text, text-of}
+use Rattle.printed.specs.Printed.{one-after}
+use borrow.Author.Needs.{needs}
+use Rattle.printed.proofs.lent.on_mark.Statement.{statement}
+use Rattle.printed.proofs.lent.on_mark.Tie as tie
+
+stopped-requires : tie.Need-stopped-requires
+stopped-requires c κs = search needs
+
+returns : tie.Need-returns
+returns c = c .stopped .ensures ∙ sym (unless-kept _ _ _ (c .before .if1 .taken))
+
+wrapping-add-u64-requires : tie.Need-wrapping-add-u64-requires
+wrapping-add-u64-requires c κs = search needs
+
+line-requires : tie.Need-line-requires
+line-requires c κs = search needs
+
+returns-2 : tie.Need-returns-2
+unfolding one-after
+returns-2 c =
+    let a = c .before .before .before .before .before .before .args in
+    let number = c .before .wrapping-add-u64 .ensures in
+    (λ i.
+    record {
+      text = (c .line .ensures ∙ (λ j. text-of (line-text (number j) gap 0 (a .stamp) 3 0))) i;
+      status = a .told .status;
+      count = number i;
+      more = true;
+    })
+    ∙ sym (unless-taken _ _ _ (c .before .before .if1 .left))
+
+pub on-mark-spec : {M : Type 1} → statement M
+on-mark-spec =
+    tie.close (tie.spec stopped-requires returns wrapping-add-u64-requires line-requires returns-2)
