@@ -43,6 +43,10 @@ use Rattle.walk.specs.Walk.{budget-of, walk-of}
 use Rattle.stretch.specs.Judge.{judge-of, one-number}
 use Rattle.stretch.proofs.Bounds.{judge-small}
 use Rattle.stretch.proofs.Judging.{one-short, one-long}
+use Rattle.printout.specs.Text.{header-text, stop-text, text-of}
+use Rattle.printed.specs.Printed.{printed-of}
+use Rattle.printed.specs.Listing.{listing-of}
+use Rattle.printed.proofs.Whole.{listing-taken, listing-refused}
 use Rattle.demands.specs.Uses.{Use, session-through}
 use Rattle.demands.specs.Traces.{entry-of, first-met}
 use Rattle.demands.proofs.Running.{running, seen, running-number, running-range}
@@ -51,6 +55,7 @@ use Rattle.demands.proofs.Walks.{WalkedOver, walk-over, walk-named}
 use Rattle.demands.proofs.Judging.{JudgeTaken, judge-taken, judge-first, judge-alone}
 use Rattle.record_form.proofs.Reading.{refusal-of as refusal-of-record}
 use Rattle.demands.proofs.Uses.{uses-are-calls}
+use Rattle.demands.proofs.Listing.{ShownAs, refused-shown, read-good, listing-shown}
 use Rattle.demands.proofs.Forms.{record-refused, record-not-written, fresh-number}
 -- "Packed properties and traces read back as written, and only one packing of each is taken."
 pub use Rattle.property_form.proofs.RoundTrip.{write-then-read as property-reads-back, read-then-write as property-writes-back, one-packing as property-one-packing}
@@ -286,3 +291,19 @@ demand-C property trace =
 pub judge-one-packing : {property trace other : List ℕ} → (a : JudgeTaken property trace (judge-of property trace))
     → (b : JudgeTaken property other (judge-of property other)) → a .entries ≡ b .entries → trace ≡ other
 judge-one-packing a b e = a .trace-packed ∙ ap (trace-form 0) e ∙ sym (b .trace-packed)
+
+-- ==== The listing: the header; a refused property, `stop 0` and its number; one that is taken, a line for each record taken, which
+-- shows it and the verdict and number open that the rules give after it, and the last line (`ShownAs`).
+pub record Demand-listing (property records : List ℕ) : Type 0 where
+  pub refused : (n : ℕ) → Read.read property .refusal ≡ suc n → listing-of property records ≡ header-text ++ stop-text 0 (suc n)
+  pub taken : (e : Read.read property .refusal ≡ 0)
+      → (text : List ℕ) × (listing-of property records ≡ header-text ++ text) × ShownAs (Read.read property .property) (read-good property e) [] 0 records text
+
+pub demand-listing : (property records : List ℕ) → Demand-listing property records
+demand-listing property records =
+    record { refused = listing-refused property records; taken = λ e. (_, listing-taken property records e, listing-shown property records e) }
+
+-- `printed::record` on any record: what the walk of one record refuses (10 first) is the number that its last line names.
+pub demand-1-printed : (s : Session) (count : ℕ) (bytes : List ℕ) (n : ℕ) → walk-of s bytes 1 .refusal ≡ suc n
+    → printed-of s count bytes ≡ record { text = text-of (stop-text count (suc n)); session = s; count = count; more = false }
+demand-1-printed = refused-shown

@@ -8,3 +8,4 @@ pub mod Judged
 pub mod Judging
 pub mod Written
 pub mod Forms
+pub mod Listing

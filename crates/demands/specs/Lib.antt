@@ -1,3 +1,4 @@
 -- The words in which the demands speak of traces and of calls that are made one after the other.
 pub mod Traces
 pub mod Uses
+pub mod Listing

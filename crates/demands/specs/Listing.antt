@@ -1,0 +1,31 @@
+-- The listing, line by line, in the words of the rules.
+use Prim.Native.Nat.{ℕ}
+use mathlib.Core.Path.{_≡_}
+use mathlib.Core.Logic.{_⊎_}
+use mathlib.Core.List.{List, [], _∷_, _++_}
+use Rattle.meaning.specs.Words.{Property}
+use Rattle.meaning.specs.Node.{Verdict, verdict-number}
+use Rattle.meaning.specs.Calls.{Call, fresh, watched, Standing, open-of}
+use Rattle.record_form.specs.Record.{record-answer}
+use Rattle.record_form.specs.Record
+use Rattle.record_form.specs.Trace.{Entry, kind-of, action-of, stamp-of, entry-call}
+use Rattle.session.specs.declared.Session.{Session}
+use Rattle.session.specs.Record.{latest-of}
+use Rattle.printout.specs.Text.{line-text, end-text, stop-text}
+use Rattle.printed.specs.Printed.{one-after}
+use Rattle.demands.specs.Traces.{RefusedWith}
+
+-- The lines of these records, after calls on a fresh session and `number` lines: "record number from 1; I, O or G; action; stamp;
+-- verdict after it; number open".
+abbrev pub Shows : Property → List Call → ℕ → List Entry → List ℕ → Type 0
+Shows p before number [] text = text ≡ []
+Shows p before number (e ∷ entries) text =
+    (v : Verdict) × (rest : List ℕ) × Standing p (watched p fresh (before ++ entry-call e ∷ [])) v
+    × (text ≡ line-text (one-after number) (kind-of e) (action-of e) (stamp-of e) (verdict-number v) (open-of p (watched p fresh (before ++ entry-call e ∷ []))) ++ rest)
+    × Shows p (before ++ entry-call e ∷ []) (one-after number) entries rest
+
+-- "The last line counts the records taken; after a refusal it is `stop`, the count and the refusal number instead."
+abbrev pub LastLine : Session → List ℕ → ℕ → List ℕ → Type 0
+LastLine s bytes count text =
+    ((record-answer bytes (latest-of s) ≡ Record.taken Record.end 0 (latest-of s)) × (text ≡ end-text count))
+    ⊎ ((n : ℕ) × RefusedWith s bytes n × (n ≡ 0 → ⊥) × (text ≡ stop-text count n))
