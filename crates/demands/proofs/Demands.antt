@@ -8,8 +8,7 @@ use mathlib.Core.List.{List, [], _∷_, _++_}
 use native.Mathlib.Omega.{arith}
 use lib.ListN.{length}
 use lib.Dec.{ltb, eqb}
-use Rattle.meaning.specs.Words.{Line}
-use Rattle.meaning.specs.Words
+use Rattle.meaning.specs.Words.{Line, Property as PropertyMeant}
 use Rattle.meaning.specs.Node.{Breaks, Verdict, VerdictFor, verdict-number}
 use Rattle.meaning.specs.Numbers.{given, first-of, property-refusal}
 use Rattle.meaning.specs.Calls.{Mark, Call, fresh, watched, AllTaken, kept, Standing, open-of, Answer, IsAnswer, refusal}
@@ -41,8 +40,7 @@ use Rattle.kept.specs.Event.{call-of}
 use Rattle.kept.specs.declared.Event.the-variants as Kept
 use Rattle.walk.specs.Walk.{budget-of, walk-of}
 use Rattle.stretch.specs.Judge.{judge-of, one-number}
-use Rattle.stretch.proofs.Bounds.{judge-small}
-use Rattle.stretch.proofs.Judging.{one-short, one-long}
+use Rattle.stretch.proofs.Judging.{one-long}
 use Rattle.printout.specs.Text.{header-text, stop-text, text-of}
 use Rattle.printed.specs.Printed.{printed-of}
 use Rattle.printed.specs.Listing.{listing-of}
@@ -52,7 +50,7 @@ use Rattle.demands.specs.Traces.{entry-of, first-met}
 use Rattle.demands.proofs.Running.{running, seen, running-number, running-range}
 use Rattle.demands.proofs.Exact.{blind-kept, exact-kept, line-told, says-blind}
 use Rattle.demands.proofs.Walks.{WalkedOver, walk-over, walk-named}
-use Rattle.demands.proofs.Judging.{JudgeTaken, judge-taken, judge-first, judge-alone}
+use Rattle.demands.proofs.Judging.{JudgeTaken, judge-taken, judge-first, judge-alone, taken-apart}
 use Rattle.record_form.proofs.Reading.{refusal-of as refusal-of-record}
 use Rattle.demands.proofs.Uses.{uses-are-calls}
 use Rattle.demands.proofs.Listing.{ShownAs, refused-shown, read-good, listing-shown}
@@ -64,7 +62,7 @@ pub use Rattle.demands.proofs.Written.{written-trace}
 pub use Rattle.demands.proofs.Forms.{begins-one-packing}
 
 -- ==== Demand 2, over the meaning. "After each line taken while the watcher isn't blind, the verdict on the run is exact."
-module _ (p : Words.Property) (good : property-refusal p ≡ 0) where
+module _ (p : PropertyMeant) (good : property-refusal p ≡ 0) where
   -- For any list of calls on a fresh session, refused ones too:
   pub record Demand-2 (calls : List Call) : Type 0 where
     -- the verdict that the step over cuts reads off stands, by the definition over every explanation of the open run,
@@ -155,7 +153,7 @@ demand-1-read-property s =
     }
 
 -- `write_property`: 1, 2, 3, 9; no byte is written.
-pub demand-1-write-property : (q : Words.Property) (buffer : List ℕ)
+pub demand-1-write-property : (q : PropertyMeant) (buffer : List ℕ)
     → Refuses (Write.written q buffer .refusal) (first-of (property-refusal q) (given 9 (ltb (length buffer) (length (property-form q)))))
     (λ n. (Write.written q buffer ≡ record { refusal = n; size = 0 }) × (Write.left q buffer ≡ buffer))
 unfolding Write.written Write.write-refusal
@@ -277,15 +275,8 @@ pub record Demand-C (property trace : List ℕ) (number : ℕ) : Type 0 where
 
 pub demand-C : (property trace : List ℕ) → Demand-C property trace (one-number (judge-of property trace))
 demand-C property trace =
-    let j = judge-of property trace in
-    let small = judge-small property trace in
-    record {
-      refusal = λ h. omega (arith, sym (one-short j h), small .verdict-small);
-      verdict = λ h. omega (arith, sym (one-short j h), small .verdict-small);
-      count = λ h. omega (arith, sym (one-short j h), small .verdict-small);
-      longer = λ h. sym (one-long j h);
-    }
-
+    let a = taken-apart property trace in
+    record { refusal = λ h. a h .0; verdict = λ h. a h .1; count = λ h. a h .2; longer = λ h. sym (one-long (judge-of property trace) h) }
 
 -- "only one packing of each is taken": two traces that the judge takes with the same records are the same bytes.
 pub judge-one-packing : {property trace other : List ℕ} → (a : JudgeTaken property trace (judge-of property trace))

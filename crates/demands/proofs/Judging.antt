@@ -1,5 +1,5 @@
 -- The judge, from its bytes to its numbers.
-use Prim.Native.Nat.{ℕ, zero, suc, _-_}
+use Prim.Native.Nat.{ℕ, zero, suc, _-_, _/_, _%_, _≤_}
 use mathlib.Core.Path.{_≡_, refl, sym, _∙_, ap, subst}
 use mathlib.Core.Bool.{Bool, true, false, cond}
 use mathlib.Core.List.{List, []}
@@ -32,7 +32,9 @@ use Rattle.walk.specs.declared.Stop.the-variants.{Budget, End, Refused}
 use Rattle.walk.specs.declared.Walked.{Walked}
 use Rattle.walk.specs.Walk.{stop-number, stop-refusal, walk-on, in-numbers}
 use Rattle.stretch.specs.declared.Judged.{Judged}
-use Rattle.stretch.specs.Judge.{refused, by-stop, walked, trace-judged, by-property, judge-of}
+use Rattle.stretch.specs.Judge.{refused, by-stop, walked, trace-judged, by-property, judge-of, one-number}
+use Rattle.stretch.proofs.Bounds.{judge-small}
+use Rattle.stretch.proofs.Judging.{one-short}
 use Rattle.demands.specs.Traces.{calls-of, behind, StopsBy, first-met}
 use Rattle.demands.proofs.Running.{running, all-taken}
 use Rattle.demands.proofs.Exact.{standing-told}
@@ -173,3 +175,13 @@ by-alone n zero false p trace e = stops-alone n (walked p trace .stop) (ltb (wal
 pub judge-alone : (property trace : List ℕ) (n : ℕ) → judge-of property trace .refusal ≡ suc n → judge-of property trace ≡ refused (suc n)
 unfolding judge-of
 judge-alone property trace n e = by-alone n (read property .refusal) (ltb (Read.taken property) (length property)) (read property .property) trace e
+
+-- the C call's one number, taken apart
+pub taken-apart : (property trace : List ℕ) → judge-of property trace .count ≤ 16_383
+    → (one-number (judge-of property trace) / 65_536 ≡ judge-of property trace .refusal)
+    × (one-number (judge-of property trace) / 16_384 % 4 ≡ judge-of property trace .verdict)
+    × (one-number (judge-of property trace) % 16_384 ≡ judge-of property trace .count)
+taken-apart property trace h =
+    let j = judge-of property trace in
+    let v = judge-small property trace .verdict-small in
+    (omega (arith, sym (one-short j h), v), omega (arith, sym (one-short j h), v), omega (arith, sym (one-short j h), v))

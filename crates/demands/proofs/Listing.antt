@@ -2,11 +2,10 @@
 use Prim.Native.Nat.{ℕ, zero, suc, _<_, _≤_}
 use mathlib.Core.Path.{_≡_, refl, sym, _∙_, ap, ap₂, subst}
 use mathlib.Core.Bool.{Bool, true, false, cond}
-use mathlib.Core.Logic.{_⊎_, inl, inr}
+use mathlib.Core.Logic.{inl, inr}
 use mathlib.Core.List.{List, [], _∷_, _++_, append-assoc}
 use native.Mathlib.Omega.{arith}
 use lib.ListN.{length, drop, length-drop}
-use Rattle.meaning.specs.Words
 use Rattle.meaning.specs.Node.{verdict-number}
 use Rattle.meaning.specs.Numbers.{property-refusal}
 use Rattle.meaning.specs.Calls.{Call, open-of}

@@ -64,7 +64,11 @@ pub fn put_property(out: &mut Page, at: usize, p: Property) -> usize {
 // What all properties share: the numbers, the held stamps and their actions, a line each.
 fn put_shared(out: &mut Page, at: usize, shared: Shared) -> usize {
     let status = shared.status;
-    let numbers = [status.count as u64, status.latest, text::wide_flag(status.blind)];
+    let numbers = [
+        status.count as u64,
+        status.latest,
+        text::wide_flag(status.blind),
+    ];
     let first = text::put_line(out, at, b"session", &numbers);
     let held = shared.held;
     let second = text::put_used(out, first, b"held", &held);

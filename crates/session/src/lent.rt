@@ -160,7 +160,19 @@ fn run_on(
     requires { ⌜ Closes (p .ub) (now held) count t closed × (t ≤ last-stamp) × (count - closed + cond out 0 1 ≤ most-open) ⌝ }
     ensures { λ r. ⌜ Taken p (front-after p (front-of (now (held .entry)) (now (acts .entry)) count (row (now (masks .entry)) (now (marks .entry)))) (line-of out act t)) t (now (held .exit)) (now (acts .exit)) (now (masks .exit)) (now (marks .exit)) r ⌝ }
 {
-    let left = cuts::take_line(p, table, held, acts, masks, marks, count, closed, out, act, t);
+    let left = cuts::take_line(
+        p,
+        table,
+        held,
+        acts,
+        masks,
+        marks,
+        count,
+        closed,
+        out,
+        act,
+        t,
+    );
     let verdict = cuts::verdict(masks, marks, left);
     let status = Status {
         count: left,
@@ -205,7 +217,19 @@ pub fn line(
     if MOST_OPEN < open_after(count, closed, out) {
         return unmoved(6, status);
     }
-    run_on(p, table, held, acts, masks, marks, count, closed, out, act, t)
+    run_on(
+        p,
+        table,
+        held,
+        acts,
+        masks,
+        marks,
+        count,
+        closed,
+        out,
+        act,
+        t,
+    )
 }
 
 // A gap mark.

@@ -202,7 +202,15 @@ pub fn mark(s: Session, stamp: u64) -> Stepped
     let mut marks = row.marks;
     let status = shared.status;
     lent::tidy(p, &mut held, &mut acts, &mut masks, &mut marks, status);
-    let r = lent::mark(p, &mut held, &mut acts, &mut masks, &mut marks, status, stamp);
+    let r = lent::mark(
+        p,
+        &mut held,
+        &mut acts,
+        &mut masks,
+        &mut marks,
+        status,
+        stamp,
+    );
     let answer = r.answer;
     if answer.refusal != 0 {
         return unmoved(s, answer.refusal);

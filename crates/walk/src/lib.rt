@@ -97,10 +97,32 @@ fn one_record(
     let record = record_form::read_record(bytes, status.latest);
     match record {
         RecordRead::Input(action, stamp) => {
-            after(lent::line(p, table, held, acts, masks, marks, status, false, action, stamp))
+            after(lent::line(
+                p,
+                table,
+                held,
+                acts,
+                masks,
+                marks,
+                status,
+                false,
+                action,
+                stamp,
+            ))
         }
         RecordRead::Output(action, stamp) => {
-            after(lent::line(p, table, held, acts, masks, marks, status, true, action, stamp))
+            after(lent::line(
+                p,
+                table,
+                held,
+                acts,
+                masks,
+                marks,
+                status,
+                true,
+                action,
+                stamp,
+            ))
         }
         RecordRead::Gap(stamp) => after(lent::mark(p, held, acts, masks, marks, status, stamp)),
         RecordRead::End(_) => Turn {
