@@ -1,8 +1,8 @@
 -- The arrays of a front through one line: what closing leaves, what a new input and an output make of it; and the way back.
-use Prim.Native.Nat.{ℕ, zero, suc, _+_, _*_, _-_, _≤_, _<_}
+use Prim.Native.Nat.{ℕ, suc, _+_, _*_, _-_, _≤_, _<_}
 use mathlib.Core.Path.{_≡_, refl, sym, ap, ap₂, _∙_, subst}
 use mathlib.Core.Bool.{Bool, true, false}
-use mathlib.Core.List.{List, [], _∷_, map}
+use mathlib.Core.List.{List, _∷_, map}
 use native.Mathlib.Nat.{add-zero, add-suc}
 use native.Mathlib.Numerals.{add-one}
 use native.Mathlib.Omega.{arith}
@@ -21,10 +21,10 @@ use Rattle.property.specs.declared.Property.{Property}
 use Rattle.matcher.specs.declared.sets.Cut.{Cut}
 use Rattle.matcher.specs.Sets.{set-of, cut-of, Fits, Moved}
 use Rattle.matcher.proofs.Words.{cut-back}
-use Rattle.held.specs.Held.{line-at, Closes, Tidy}
+use Rattle.held.specs.Held.{line-at, Closes}
 use Rattle.cuts.specs.declared.Row.{Row}
 use Rattle.cuts.specs.Steps.{line-of, front-closed, front-then, front-after}
-use Rattle.cuts.specs.Arrays.{row, cut-at, set-at, held-at, front-of, number-of, sets-of, Stored, RowTidy, Usable, Holds, Swept, Appended}
+use Rattle.cuts.specs.Arrays.{row, cut-at, set-at, held-at, front-of, number-of, sets-of, Stored, Usable, Holds, Swept, Appended}
 use Rattle.meaning.proofs.Fronts.{closed-first, input-by, open-after-output, open-after-input}
 
 -- Open inputs, or what comes after a line, by what stands at a place.
@@ -100,7 +100,8 @@ module _ (p : Property) (held acts : List ℕ) (count act t : ℕ) (r r′ : Row
 
   line-last : line-of false act t ≡ line-at (set held count t) (set acts count act) count
   line-last =
-      line-same _ _ _ _ (sym (getD-set-same acts count act 0 (let l : length acts ≡ 64 = usable .tidy .acts-long in omega arith))) (sym (getD-set-same held count t 0 (let l : length held ≡ 64 = usable .tidy .held-long in omega arith)))
+      line-same _ _ _ _ (sym (getD-set-same acts count act 0 (let l : length acts ≡ 64 = usable .tidy .acts-long in omega arith)))
+      (sym (getD-set-same held count t 0 (let l : length held ≡ 64 = usable .tidy .held-long in omega arith)))
 
   appended-holds : Holds p (front-then p (Action.input act) (line-of false act t) (front-of held acts count r)) (set held count t) (set acts count act) (suc count) r′
   appended-holds =

@@ -1,12 +1,12 @@
 -- The one map between the arrays of a session and the front of the meaning. Open inputs have their stamps in `held` and their
 -- actions' numbers in `acts`; what belongs to one property is a row.
-use Prim.Native.Nat.{ℕ, suc, _+_, _*_, _≤_, _<_}
+use Prim.Native.Nat.{ℕ, suc, _≤_, _<_}
 use mathlib.Core.Path.{_≡_}
-use mathlib.Core.Bool.{Bool, true, false}
+use mathlib.Core.Bool.{true, false}
 use mathlib.Core.List.{List, _∷_, map}
 use lib.ListN.{length, getD}
 use Rattle.laws.specs.Places.{first, padded}
-use Rattle.meaning.specs.Words.{Action, Line}
+use Rattle.meaning.specs.Words.{Action}
 use Rattle.meaning.specs.Limits.{last-stamp}
 use Rattle.meaning.specs.Numbers.{property-refusal}
 use Rattle.meaning.specs.Matcher.{Lengths}

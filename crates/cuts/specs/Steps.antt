@@ -7,7 +7,8 @@ use Rattle.meaning.specs.Node.{Verdict}
 use Rattle.meaning.specs.Calls.{Call}
 use Rattle.meaning.specs.Calls
 use Rattle.meaning.specs.Matcher.{Lengths}
-use Rattle.meaning.specs.Step.{Held, Front, Cuts, lengths, closed, front-next, front-with, fresh-front, no-front, front-verdict, fresh-cuts, told, cuts-verdict, cuts-refusal, cuts-taken, cuts-next, cuts-told, cuts-answer, cuts-after}
+use Rattle.meaning.specs.Step.{Held, Front, Cuts, lengths, closed, front-next, front-with, fresh-front, no-front, front-verdict}
+use Rattle.meaning.specs.Step.{fresh-cuts, told, cuts-verdict, cuts-refusal, cuts-taken, cuts-next, cuts-told, cuts-answer, cuts-after}
 use Rattle.property.specs.Meant.{action-of, meant}
 use Rattle.property.specs.declared.Property.{Property}
 

@@ -1,13 +1,12 @@
 // One line of a run on lent arrays. What belongs to one property is a row: the two words of each cut, one before each open input
 // and one after all. What all properties share, the open inputs, is in `held`.
-ghost use Prim.Native.Nat.{ℕ, suc, _+_, _-_, _≤_, _<_};
+ghost use Prim.Native.Nat.{ℕ, _-_, _≤_, _<_};
 ghost use mathlib.Core.Path.{_≡_};
 ghost use mathlib.Core.Bool.{false};
 ghost use mathlib.Core.List.{List};
 ghost use lib.ListN.{length, getD};
 ghost use Rattle.laws.specs.Places.{Shifted};
 ghost use Rattle.laws.specs.Filled.{Filled};
-ghost use Rattle.meaning.specs.Words.{Action};
 ghost use Rattle.meaning.specs.Limits.{last-stamp, most-open};
 ghost use Rattle.meaning.specs.Node.{verdict-number};
 ghost use Rattle.meaning.specs.Matcher.{some-to};
@@ -18,7 +17,7 @@ ghost use Rattle.matcher.specs.Table.{IsTable};
 ghost use Rattle.matcher.specs.Sets.{Fits};
 ghost use Rattle.matcher.specs.Sets;
 ghost use Rattle.held.specs.Held.{Closes};
-ghost use Rattle.cuts.specs.Steps.{line-of, front-then, front-after, front-says};
+ghost use Rattle.cuts.specs.Steps.{line-of, front-after, front-says};
 ghost use Rattle.cuts.specs.Arrays.{row, cut-at, front-of, RowTidy, Usable, Holds, Swept, SweptOne, Appended};
 use matcher::sets;
 use matcher::sets::Cut;
@@ -100,7 +99,8 @@ pub fn strays(masks: &[u64; 65], marks: &[u64; 65], count: usize, n: usize) -> b
 // The verdict's number, read off the last cut.
 pub fn verdict(masks: &[u64; 65], marks: &[u64; 65], count: usize) -> u8
     requires { ⌜ count ≤ most-open ⌝ }
-    ensures { λ r. ⌜ ((p : Property) (held acts : List ℕ) → Fits p (cut-at (row (now (masks .entry)) (now (marks .entry))) count) → r ≡ verdict-number (front-says p (front-of held acts count (row (now (masks .entry)) (now (marks .entry)))))) ⌝ }
+    ensures { λ r. ⌜ ((p : Property) (held acts : List ℕ) → Fits p (cut-at (row (now (masks .entry)) (now (marks .entry))) count)
+        → r ≡ verdict-number (front-says p (front-of held acts count (row (now (masks .entry)) (now (marks .entry)))))) ⌝ }
 {
     sets::verdict(cut_at(masks, marks, count))
 }
@@ -192,7 +192,9 @@ pub fn take_line(
 ) -> usize
     requires { ⌜ Usable p (now held) (now acts) count (row (now masks) (now marks)) × IsTable p (now table) ⌝ }
     requires { ⌜ Closes (p .ub) (now held) count t closed × (t ≤ last-stamp) × (out ≡ false → count - closed < most-open) ⌝ }
-    ensures { λ r. ⌜ Holds p (front-after p (front-of (now (held .entry)) (now (acts .entry)) count (row (now (masks .entry)) (now (marks .entry)))) (line-of out act t)) (now (held .exit)) (now (acts .exit)) r (row (now (masks .exit)) (now (marks .exit))) ⌝ }
+    ensures { λ r. ⌜ Holds p
+        (front-after p (front-of (now (held .entry)) (now (acts .entry)) count (row (now (masks .entry)) (now (marks .entry)))) (line-of out act t))
+        (now (held .exit)) (now (acts .exit)) r (row (now (masks .exit)) (now (marks .exit))) ⌝ }
 {
     let left = count - closed;
     held::drop_first(held, acts, count, closed);

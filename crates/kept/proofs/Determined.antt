@@ -1,4 +1,4 @@
--- The promise of `step` fixes the answer and the record afterwards, refused or not: two results allowed by it are equal. Assumes nothing.
+-- The promise of `step` fixes the answer and the record afterwards, refused or not: two results allowed by it are equal.
 use mathlib.Core.Path.{_≡_, sym, _∙_}
 use Rattle.session.specs.Step.{stepped-of}
 use Rattle.session.specs.declared.Session.{Session}

@@ -12,7 +12,7 @@ use borrow.Author.Tests.{lt-ltb, eq-eqb, eqb-true, eqb-false}
 use Rattle.meaning.specs.Words.{Action}
 use Rattle.meaning.specs.Matcher.{same, ends, goes-on, fall-back}
 use Rattle.matcher.specs.Table.{Shorter}
-use Rattle.matcher.proofs.Matching.{fall-back-here, fall-back-none, fall-back-down}
+use Rattle.matcher.proofs.Recursion.{fall-back-none, fall-back-down}
 
 same-refl : (a : Action) → same a a ≡ true
 same-refl (Action.input k) = eq-eqb k k refl
@@ -138,10 +138,6 @@ module _ (s : ℕ → Action) where
           ap₂ (λ (b : Bool) (x : ℕ). cond ((ltb (suc j) n && same (s (suc j)) a) && b) (suc (suc j)) x)
           (ends-through (suc j) f k h l e)
           (through k f j l e (omega arith))
-
-      pub entry-on : (k : ℕ) → k < n → same (s k) a ≡ true → k + 1 ≡ fall-back s n k a k
-      entry-on k h e =
-          fall-back-here s n k k a (ap₂ (λ (x y : Bool). x && y && ends s k k) (lt-ltb k n h) e ∙ ends-self k)
 
       pub entry-none : (k : ℕ) → goes-on s n k k a ≡ false → k ≡ 0 → 0 ≡ fall-back s n k a k
       entry-none k e z = fall-back-none s n k k a e z

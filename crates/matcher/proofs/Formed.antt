@@ -11,7 +11,7 @@ use Rattle.property.specs.Meant.{action-of, meant}
 use Rattle.property.specs.declared.Property.{Property}
 use Rattle.property.proofs.Refusal.{taken-bounds, taken-number}
 use Rattle.matcher.specs.Table.{action-at, Made, IsTable}
-use Rattle.matcher.proofs.Matching.{fall-back-agree}
+use Rattle.matcher.proofs.Recursion.{fall-back-agree}
 use Rattle.laws.proofs.Places.{length-first, getD-first}
 
 module _ (p : Property) (formed : property-refusal (meant p) ≡ 0) where

@@ -1,6 +1,6 @@
-pub mod Matching
-pub mod Steps
-pub mod Rows
+pub mod Recursion
+pub mod SetStep
+pub mod TableRows
 pub mod Formed
 pub mod Moves
 pub mod Falling

@@ -8,18 +8,18 @@ use native.Mathlib.Omega.{arith}
 use lib.ListN.{length, getD}
 use lib.Dec.{eqb, ltb}
 use lib.Pow.{pow-pos, shl-exact, split}
-use lib.Bits.{bitAnd, bitOr, and-mask, and-le-l}
+use lib.Bits.{bitAnd, and-mask, and-le-l}
 use borrow.Author.Tests.{eq-eqb, ne-eqb, eqb-true, eqb-false, lt-ltb, le-ltb}
 use Rattle.meaning.specs.Words.{Action}
-use Rattle.meaning.specs.Matcher.{Lengths, State, some-to, is-matched, is-broken, matched-next, outside, moved, either}
+use Rattle.meaning.specs.Matcher.{Lengths, State, some-to, is-matched, is-broken, matched-next, outside, moved}
 use Rattle.meaning.specs.Numbers.{property-refusal}
 use Rattle.laws.specs.Bits.{bit}
 use Rattle.property.specs.Meant.{action-of, meant}
 use Rattle.property.specs.declared.Property.{Property}
 use Rattle.matcher.specs.Sets.{stepped}
 use Rattle.matcher.specs.Table.{action-at, row-of, IsTable}
-use Rattle.laws.proofs.Bits.{bit-low, bit-above, bit-or}
-use Rattle.matcher.proofs.Matching.{fall-back-le}
+use Rattle.laws.proofs.Bits.{bit-low, bit-above}
+use Rattle.matcher.proofs.Recursion.{fall-back-le}
 use Rattle.meaning.proofs.Tests.{some-to-agree, some-to-none, some-to-last}
 use Rattle.laws.proofs.Places.{length-first}
 use Rattle.matcher.proofs.Formed.{formed-length}
@@ -173,7 +173,3 @@ module _ (p : Property) (allowed act : ℕ) (out : Bool) (q : p .allowed ≡ all
 
   pub input-inside : out ≡ false → false ≡ outside (meant p) (action-of out act)
   input-inside e = ap (λ (o : Bool). outside (meant p) (action-of o act)) (sym e)
-
--- Two sets joined.
-pub joined-is : (m n : ℕ) (b c d : Bool) → d ≡ b || c → set-by (bitOr m n) d ≡ either (set-by m b) (set-by n c)
-joined-is m n b c d e = ap₂ (λ (f : ℕ → Bool) (x : Bool). record { at = f; with-broken = x }) (fun-ext (λ k. bit-or m n k)) e

@@ -1,7 +1,7 @@
--- The laws by which crates above know what a cut stores: the set of two words and the way back, the words of the empty set and of the
--- start, and that the meaning's sets keep to the lengths of the sequence.
+-- The laws by which crates above know what a cut stores: the set of two words and the way back, and that the meaning's sets keep
+-- to the lengths of the sequence.
 use Prim.Native.Nat.{ℕ, zero, suc, _+_, _*_, _/_, _^_, _≤_, _<_}
-use mathlib.Core.Path.{_≡_, refl, sym, ap, ap₂, _∙_, subst, fun-ext}
+use mathlib.Core.Path.{_≡_, refl, sym, ap, ap₂, _∙_, fun-ext}
 use mathlib.Core.Bool.{Bool, true, false, cond, not, _&&_, _||_}
 use native.Mathlib.Nat.{pow-suc, le-div-iff-mul-le, div-lt-iff-lt-mul}
 use native.Mathlib.Numerals.{add-one}
@@ -22,7 +22,7 @@ use Rattle.meaning.proofs.Tests.{not-true, both, some-to-found, some-to-here, s
 use Rattle.meaning.proofs.Lengths.{is-matched-eq, next-le}
 use Rattle.laws.specs.Bits.{bit, mask-to}
 use Rattle.laws.proofs.Tests.{or-split, neither}
-use Rattle.laws.proofs.Bits.{bit-zero, bit-none, bit-one, bit-or, bit-mask, bit-above, bit-width, mask-bit, mask-lt, lowest-in}
+use Rattle.laws.proofs.Bits.{bit-none, bit-or, bit-mask, bit-above, bit-width, mask-bit, mask-lt, lowest-in}
 use Rattle.laws.proofs.Places.{length-first}
 use Rattle.property.specs.Meant.{meant}
 use Rattle.property.specs.declared.Property.{Property}
@@ -141,16 +141,6 @@ module _ (p : Words.Property) where
           let le : j ≤ length (p .sequence) = next-le p (t .0) j l (is-matched-eq p j (state-next p (State.matched (t .0)) l) (q .1)) in
           let z : ⊥ = omega arith in
           z
-
--- ---- the words of the empty set are zeros
-
-pub none-words : _≡_ {A = Cut} (cut-of none-of) (record { mask = 0; marks = 0 })
-unfolding cut-of mask-to
-none-words = refl
-
-pub zero-set : set-of (record { mask = 0; marks = 0 }) ≡ none-of
-unfolding set-of
-zero-set = ap (λ (f : ℕ → Bool). record { at = f; with-broken = false }) (fun-ext bit-none)
 
 -- ---- the verdict
 

@@ -9,6 +9,7 @@ ghost use Rattle.meaning.specs.Numbers.{property-refusal};
 ghost use Rattle.property.specs.Meant.{action-of, meant};
 ghost use Rattle.matcher.specs.Table.{action-at, Shorter, row-of, row-entry, Made, IsTable};
 ghost use Rattle.laws.specs.Filled.{Filled};
+use limits::LAST_ACTION;
 use property::Property;
 
 // ?3 and !3 have nothing in common.
@@ -94,7 +95,7 @@ pub fn row(out: bool, act: u8) -> usize
     ensures { λ r. ⌜ r ≡ row-of out act ⌝ }
 {
     let a = act as usize;
-    if a <= 63 {
+    if act <= LAST_ACTION {
         if out {
             return 2112 + a * 33;
         }

@@ -12,6 +12,7 @@ ghost use Rattle.property.specs.Meant.{action-of, meant};
 ghost use Rattle.matcher.specs.Table.{IsTable};
 ghost use Rattle.matcher.specs.Sets;
 ghost use Rattle.matcher.specs.Sets.{set-of, cut-of, Fits, set-verdict, stepped, Moved, Joined};
+use limits::LAST_ACTION;
 use property::Property;
 
 // The matched lengths as a mask, and marks beside them: bit 0 is broken, no other bit is in use.
@@ -81,7 +82,7 @@ fn outside(allowed: u64, out: bool, act: u8) -> bool
     ensures { λ r. ⌜ ((p : Property) → p .allowed ≡ allowed → r ≡ Matcher.outside (meant p) (action-of out act)) ⌝ }
 {
     if out {
-        if act < 64 {
+        if act <= LAST_ACTION {
             return (allowed >> act) % 2 != 1;
         }
         return true;

@@ -7,9 +7,9 @@ use Rattle.session.specs.Step.{fresh-of}
 use Rattle.walk.specs.Walk.{walk-of}
 
 -- The number of records that the last of so many walks took.
-unfoldable pub taken-by : Session → List ℕ → ℕ → ℕ → ℕ
-taken-by s trace budget zero = 0
-taken-by s trace budget (suc times) = walk-of s trace budget .taken
+unfoldable pub last-taken : Session → List ℕ → ℕ → ℕ → ℕ
+last-taken s trace budget zero = 0
+last-taken s trace budget (suc times) = walk-of s trace budget .taken
 
 abbrev pub paced : List ℕ → List ℕ → ℕ → ℕ → ℕ
-paced property trace budget times = taken-by (fresh-of (read property .property) .session) trace budget times
+paced property trace budget times = last-taken (fresh-of (read property .property) .session) trace budget times

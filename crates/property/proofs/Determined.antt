@@ -1,4 +1,4 @@
--- The promise of `refused` determines its answer: two results allowed by it are equal. Assumes nothing.
+-- The promise of `refused` determines its answer: two results allowed by it are equal.
 use Prim.Native.Nat.{ℕ}
 use mathlib.Core.Path.{_≡_, sym, _∙_}
 use Rattle.meaning.specs.Numbers.{property-refusal}

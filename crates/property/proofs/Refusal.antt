@@ -2,7 +2,7 @@
 use Prim.Native.Nat.{ℕ, _≤_, _<_}
 use mathlib.Core.Path.{_≡_, sym, ap, _∙_}
 use mathlib.Core.Bool.{Bool, true, false, _||_}
-use borrow.Author.Tests.{ltb-false, le-ltb}
+use borrow.Author.Tests.{ltb-false}
 use lib.ListN.{getD}
 use lib.Dec.{ltb}
 use Rattle.meaning.specs.Numbers.{given, first-of, length-outside, bounds-outside, any-action-above, property-refusal}
@@ -14,23 +14,23 @@ use Rattle.property.specs.Meant.{action-of, meant, sequence-of}
 use Rattle.property.proofs.Sequence.{not-above, above-of}
 
 -- The refusal of a sequence of n actions, with the bounds, where b says whether an action number is above 63.
-abbrev pub refusal-of : ℕ → ℕ → ℕ → Bool → ℕ
-refusal-of n lb ub b = first-of (given 1 (length-outside n)) (first-of (given 2 (bounds-outside lb ub)) (given 3 b))
+abbrev pub refusal-from : ℕ → ℕ → ℕ → Bool → ℕ
+refusal-from n lb ub b = first-of (given 1 (length-outside n)) (first-of (given 2 (bounds-outside lb ub)) (given 3 b))
 
-pub refusal-is : (p : Property) → property-refusal (meant p) ≡ refusal-of (p .n) (p .lb) (p .ub) (any-action-above (sequence-of p))
+pub refusal-is : (p : Property) → property-refusal (meant p) ≡ refusal-from (p .n) (p .lb) (p .ub) (any-action-above (sequence-of p))
 refusal-is p =
-    ap (λ (n : ℕ). refusal-of n (p .lb) (p .ub) (any-action-above (sequence-of p)))
+    ap (λ (n : ℕ). refusal-from n (p .lb) (p .ub) (any-action-above (sequence-of p)))
     (length-first (λ i. action-of (getD (p .output) i false) (getD (p .number) i 0)) (p .n))
 
 -- What holds of a property that none of the three refuses.
-pub record Taken (n lb ub : ℕ) : Type 0 where
+pub record InLimits (n lb ub : ℕ) : Type 0 where
   pub some : 1 ≤ n
   pub most : n ≤ 32
   pub low : 1 ≤ lb
   pub order : lb ≤ ub
   pub high : ub ≤ 60_000_000
 
-pub taken : (n lb ub : ℕ) (b : Bool) → refusal-of n lb ub b ≡ 0 → Taken n lb ub
+pub taken : (n lb ub : ℕ) (b : Bool) → refusal-from n lb ub b ≡ 0 → InLimits n lb ub
 taken n lb ub b e =
     let one = none-first 0 (length-outside n) e in
     let two = none-first 1 (bounds-outside lb ub) (one .1) in
@@ -45,16 +45,12 @@ taken n lb ub b e =
       high = ltb-false 60_000_000 ub (bounds .1);
     }
 
-pub none-refused : (n lb ub : ℕ) → Taken n lb ub → refusal-of n lb ub false ≡ 0
-none-refused n lb ub t =
-    simp (le-ltb n 1 (t .some), le-ltb 32 n (t .most), le-ltb lb 1 (t .low), le-ltb ub lb (t .order), le-ltb 60_000_000 ub (t .high))
-
 -- No number of the sequence is above 63 where none of the three refuses.
-pub no-number-above : (n lb ub : ℕ) (b : Bool) → refusal-of n lb ub b ≡ 0 → b ≡ false
+pub no-number-above : (n lb ub : ℕ) (b : Bool) → refusal-from n lb ub b ≡ 0 → b ≡ false
 no-number-above n lb ub b e = given-none 2 b (none-first 1 (bounds-outside lb ub) (none-first 0 (length-outside n) e .1) .1)
 
 module _ (p : Property) (e : property-refusal (meant p) ≡ 0) where
-  pub taken-bounds : Taken (p .n) (p .lb) (p .ub)
+  pub taken-bounds : InLimits (p .n) (p .lb) (p .ub)
   taken-bounds = taken (p .n) (p .lb) (p .ub) (any-action-above (sequence-of p)) (sym (refusal-is p) ∙ e)
 
   pub taken-number : (i : ℕ) → i < p .n → getD (p .number) i 0 ≤ 63

@@ -3,6 +3,9 @@ ghost use mathlib.Core.Path.{_≡_};
 ghost use Prim.Native.Nat.{_≤_};
 ghost use Rattle.meaning.specs.Numbers.{property-refusal, any-action-above};
 ghost use Rattle.property.specs.Meant.{meant, sequence-of};
+use limits::LAST_ACTION;
+use limits::LAST_BOUND;
+use limits::MOST_ACTIONS;
 
 pub struct Property {
     // The length of the sequence; places from it on are not read.
@@ -25,7 +28,7 @@ fn above(p: Property) -> bool
     let n = p.n;
     let mut i = 0;
     while i < n {
-        if 63 < number[i] {
+        if LAST_ACTION < number[i] {
             return true;
         }
         i += 1;
@@ -40,7 +43,7 @@ pub fn refused(p: Property) -> u64
     if p.n < 1 {
         return 1;
     }
-    if 32 < p.n {
+    if MOST_ACTIONS < p.n {
         return 1;
     }
     if p.lb < 1 {
@@ -49,7 +52,7 @@ pub fn refused(p: Property) -> u64
     if p.ub < p.lb {
         return 2;
     }
-    if 60_000_000 < p.ub {
+    if LAST_BOUND < p.ub {
         return 2;
     }
     if above(p) { 3 } else { 0 }

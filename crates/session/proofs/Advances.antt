@@ -3,32 +3,29 @@ use Prim.Native.Nat.{ℕ, _+_, _-_, _*_, _≤_, _<_}
 use mathlib.Core.Path.{_≡_, refl, sym, _∙_, ap, subst}
 use mathlib.Core.Bool.{Bool, true, false, cond}
 use mathlib.Core.List.{List}
-use native.Mathlib.Omega.{arith}
 use native.Mathlib.Nat.{add-zero}
-use lib.ListN.{length, getD, set, replicate}
+use lib.ListN.{length, set, replicate}
 use lib.Dec.{ltb}
-use Rattle.meaning.specs.Limits.{last-action, last-stamp, most-open}
+use Rattle.meaning.specs.Limits.{last-action, most-open}
 use Rattle.meaning.specs.Numbers.{given, first-of}
 use Rattle.meaning.specs.Node.{Verdict, verdict-number}
-use Rattle.meaning.specs.Calls.{Mark, Call, stamp-refusal}
+use Rattle.meaning.specs.Calls.{Call, stamp-refusal}
 use Rattle.meaning.specs.Calls
 use Rattle.meaning.specs.Matcher.{Lengths, at-start}
 use Rattle.meaning.specs.Step.{Front, Cuts}
 use Rattle.property.specs.declared.Property.{Property}
 use Rattle.matcher.specs.Sets.{cut-of}
 use Rattle.held.specs.Held.{Closes}
-use Rattle.held.specs.declared.Status.{Status}
 use Rattle.cuts.specs.Steps.{line-of, front-after, front-fresh, front-none, front-says, verdict-by, refusal-by, told-by, says}
 use Rattle.cuts.specs.Arrays.{row, front-of, Stored, Usable, Holds}
 use Rattle.cuts.proofs.Lines.{stored, open-at-output, open-at-input}
 use Rattle.session.specs.declared.Session.{Session}
-use Rattle.session.specs.declared.Answer.{Answer}
 use Rattle.session.specs.declared.lent.Told.{Told}
 use Rattle.session.specs.Record.{count-of, latest-of, blind-of, cuts-of}
 use Rattle.session.specs.Step.{answer-of}
-use Rattle.session.specs.Lent.{in-arrays, Ready, Advanced, Taken}
+use Rattle.session.specs.Lent.{in-arrays, Ready, Advanced, LineTaken}
 use Rattle.session.proofs.Ready.{ready-ranged, ready-holds, ready-stored, call-refused, call-taken, zeros-stored, begun-holds}
-use Rattle.session.proofs.Lines.{Comes, line-refused, line-limit, line-skipped, line-first, line-next, line-crowded}
+use Rattle.session.proofs.Lines.{Comes, line-skipped, line-first, line-next, line-crowded}
 
 -- The call leads to these arrays and what is given back beside them.
 abbrev pub Leads : Session → Call → List ℕ → List ℕ → List ℕ → List ℕ → Told → Type 0
@@ -83,7 +80,7 @@ module _ (s : Session) (ready : Ready s) where
 
     -- a line of a run, taken
     run-leads : (f : Front Lengths) → Comes p c k (record { is-blind = false; front = f; latest = t }) → (held acts masks marks : List ℕ) (r : Told)
-        → Taken p f t held acts masks marks r → Leads s k held acts masks marks r
+        → LineTaken p f t held acts masks marks r → Leads s k held acts masks marks r
     run-leads f w held acts masks marks r y =
         let after : Cuts Lengths = record { is-blind = false; front = f; latest = t } in
         call-taken s ready k (r .answer) held acts masks marks (r .status) after (w .none) (w .taken) (y .answered ∙ comes-told after w)
@@ -98,10 +95,10 @@ module _ (s : Session) (ready : Ready s) where
         (begun-holds p (ready-ranged s ready .formed) (s .shared .held) (s .shared .acts) (s .row .masks) (s .row .marks) (blind-stored e)))
 
     pub begun-leads : blind-of s ≡ true → latest-of s + 2 * p .ub < t → (g : Front Lengths) → g ≡ front-fresh p → (held acts masks marks : List ℕ) (r : Told)
-        → Taken p (front-after p g (line-of out act t)) t held acts masks marks r → Leads s k held acts masks marks r
+        → LineTaken p (front-after p g (line-of out act t)) t held acts masks marks r → Leads s k held acts masks marks r
     begun-leads e h g q held acts masks marks r y =
         run-leads (front-after p (front-fresh p) (line-of out act t)) (line-first p c out act t n number none e h) held acts masks marks r
-        (subst (λ (x : Front Lengths). Taken p (front-after p x (line-of out act t)) t held acts masks marks r) q y)
+        (subst (λ (x : Front Lengths). LineTaken p (front-after p x (line-of out act t)) t held acts masks marks r) q y)
 
     -- one more line of the run, or no room for it
     module _ (e : blind-of s ≡ false) (d : ℕ) (closes : Closes (p .ub) (s .shared .held) (count-of s) t d) where
@@ -120,11 +117,11 @@ module _ (s : Session) (ready : Ready s) where
       crowded-is h = line-crowded p c out act t n number none e (subst (λ (m : ℕ). most-open < m) open-is h)
 
       pub next-leads : count-of s - d + cond out 0 1 ≤ most-open → (held acts masks marks : List ℕ) (r : Told)
-          → Taken p (front-after p own (line-of out act t)) t held acts masks marks r → Leads s k held acts masks marks r
+          → LineTaken p (front-after p own (line-of out act t)) t held acts masks marks r → Leads s k held acts masks marks r
       next-leads h held acts masks marks r y =
           run-leads (front-after p (c .front) (line-of out act t)) (line-next p c out act t n number none e (subst (λ (m : ℕ). m ≤ most-open) open-is h))
           held acts masks marks r
-          (subst (λ (x : Front Lengths). Taken p (front-after p x (line-of out act t)) t held acts masks marks r) (sym (front-if false e)) y)
+          (subst (λ (x : Front Lengths). LineTaken p (front-after p x (line-of out act t)) t held acts masks marks r) (sym (front-if false e)) y)
 
   -- "It closes the run, its answer gives the closed run's verdict (3 if already blind), and the session is blind."
   module _ (g n : ℕ) (number : n ≡ stamp-refusal (latest-of s) g) (none : n ≡ 0) where

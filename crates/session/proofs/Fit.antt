@@ -1,6 +1,6 @@
 -- Sessions over cuts whose record refusal 10 does not name: the record stands for the session, and each call leads to such a one.
 use Prim.Native.Nat.{ℕ, zero, suc, _≤_, _<_}
-use mathlib.Core.Path.{_≡_, refl, sym, _∙_, ap, subst}
+use mathlib.Core.Path.{_≡_, refl, sym, ap, subst}
 use mathlib.Core.Bool.{Bool, true, false, cond, not, _&&_}
 use native.Mathlib.Omega.{arith}
 use borrow.Author.Tests.{eq-eqb, ltb-false, ltb-true, le-ltb}
@@ -10,10 +10,10 @@ use Rattle.laws.proofs.Places.{length-first}
 use Rattle.laws.proofs.Tests.{neither}
 use Rattle.laws.proofs.Below.{none-below}
 use Rattle.meaning.specs.Limits.{last-stamp, most-open}
-use Rattle.meaning.specs.Numbers.{property-refusal, given, action-above}
+use Rattle.meaning.specs.Numbers.{property-refusal, action-above}
 use Rattle.meaning.specs.Calls.{Call, unless-refused, stamp-refusal, beyond}
 use Rattle.meaning.specs.Matcher.{Lengths, none-of}
-use Rattle.meaning.specs.Step.{Held, Front, Cuts, lengths, fresh-front}
+use Rattle.meaning.specs.Step.{Held, Front, Cuts, lengths}
 use Rattle.meaning.proofs.Tests.{some-to-none}
 use Rattle.meaning.proofs.Refusals.{first-of-none, none-first, given-none}
 use Rattle.meaning.proofs.Calls.{not-refused-stamp}
@@ -29,7 +29,7 @@ use Rattle.cuts.specs.Arrays.{cut-at, held-at, front-of, stored-held, stored-ac
 use Rattle.session.specs.declared.Session.{Session}
 use Rattle.session.specs.Record.{count-of, latest-of, blind-of, cuts-of, record-of, out-of-range}
 use Rattle.session.proofs.Each.{all-first}
-use Rattle.session.proofs.Range.{Ranged, ranged}
+use Rattle.session.proofs.Range.{Ranged}
 use Rattle.session.proofs.Map.{stamp-stored, stored-fits, front-back}
 
 pub record Fit (p : Property) (c : Cuts Lengths) : Type 0 where
@@ -112,7 +112,9 @@ module _ (p : Property) (good : property-refusal (meant p) ≡ 0) where
       where
         go : (t : Bool) → (t ≡ true → suc i < length (c .front .held))
             → ltb (cond t (getD (stored-held (c .front)) (suc i) 0) (c .latest)) (getD (stored-held (c .front)) i 0) ≡ false
-        go true y = le-ltb (getD (stored-held (c .front)) (suc i) 0) (getD (stored-held (c .front)) i 0) (omega (arith, stamp i h, stamp (suc i) (y refl), order-next (nothing none-of) (f .order) i (y refl)))
+        go true y =
+            le-ltb (getD (stored-held (c .front)) (suc i) 0) (getD (stored-held (c .front)) i 0)
+            (omega (arith, stamp i h, stamp (suc i) (y refl), order-next (nothing none-of) (f .order) i (y refl)))
         go false y = le-ltb (c .latest) (getD (stored-held (c .front)) i 0) (omega (arith, stamp i h, order-within (nothing none-of) (f .order) i h))
 
     empty-blind : (b : Bool) → c .is-blind ≡ b → b && ltb 0 (length (c .front .held)) ≡ false

@@ -4,7 +4,7 @@ use mathlib.Core.Path.{_≡_, refl, sym, _∙_, ap}
 use mathlib.Core.List.{List, [], _∷_}
 use native.Mathlib.Omega.{arith}
 use Rattle.meaning.specs.Numbers.{property-refusal}
-use Rattle.meaning.specs.Calls.{Call, unless-refused}
+use Rattle.meaning.specs.Calls.{Call}
 use Rattle.meaning.specs.Calls
 use Rattle.meaning.specs.Matcher.{Lengths}
 use Rattle.meaning.specs.Step.{Cuts, cuts-after, grown}
@@ -38,11 +38,19 @@ module _ (p : Property) (good : property-refusal (meant p) ≡ 0) where
           step-taken (record-of p c) k (number ∙ e)
           ∙ ap (λ (x : Cuts Lengths). record { answer = answer-of (told-by p x k); session = record-of p (taken-by p x k) }) back
           ∙ sym
-          (λ i. record { answer = answer-of (unless-taken (refusal-by p c k) (told-by p c k) (Calls.refused (refusal-by p c k)) e i); session = record-of p (unless-taken (refusal-by p c k) (taken-by p c k) c e i) })
+          (λ i.
+          record {
+            answer = answer-of (unless-taken (refusal-by p c k) (told-by p c k) (Calls.refused (refusal-by p c k)) e i);
+            session = record-of p (unless-taken (refusal-by p c k) (taken-by p c k) c e i);
+          })
       go (suc n) e =
           step-refused (record-of p c) k (refusal-by p c k) number some
           ∙ sym
-          (λ i. record { answer = answer-of (unless-kept (refusal-by p c k) (told-by p c k) (Calls.refused (refusal-by p c k)) some i); session = record-of p (unless-kept (refusal-by p c k) (taken-by p c k) c some i) })
+          (λ i.
+          record {
+            answer = answer-of (unless-kept (refusal-by p c k) (told-by p c k) (Calls.refused (refusal-by p c k)) some i);
+            session = record-of p (unless-kept (refusal-by p c k) (taken-by p c k) c some i);
+          })
         where
           some : refusal-by p c k ≡ 0 → ⊥
           some z = let w : suc n ≡ 0 = sym e ∙ z in omega arith

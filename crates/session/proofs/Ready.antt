@@ -1,14 +1,13 @@
 -- Records that a call on lent arrays can start from: what their arrays hold, and what a call refused or taken leaves.
-use Prim.Native.Nat.{ℕ, suc, _≤_, _<_}
-use mathlib.Core.Path.{_≡_, refl, sym, _∙_, ap, ap₂, subst}
-use mathlib.Core.Bool.{Bool, true, false, cond}
+use Prim.Native.Nat.{ℕ, suc}
+use mathlib.Core.Path.{_≡_, refl, sym, _∙_, ap, subst}
+use mathlib.Core.Bool.{false}
 use mathlib.Core.List.{List, map}
 use native.Mathlib.Omega.{arith}
-use lib.ListN.{length, getD, set, replicate, length-map}
+use lib.ListN.{length, set, replicate, length-map}
 use Rattle.laws.specs.Places.{first}
 use Rattle.laws.specs.Bits.{mask-to}
 use Rattle.laws.proofs.Places.{length-first, padded-behind}
-use Rattle.meaning.specs.Limits.{last-stamp}
 use Rattle.meaning.specs.Matcher.{Lengths, at-start, none-of}
 use Rattle.meaning.specs.Numbers.{property-refusal}
 use Rattle.meaning.specs.Calls.{Call}
@@ -21,12 +20,11 @@ use Rattle.matcher.specs.Sets.{cut-of}
 use Rattle.held.specs.declared.Status.{Status}
 use Rattle.cuts.specs.declared.Row.{Row}
 use Rattle.cuts.specs.Steps.{front-fresh, front-none, fresh-by, refusal-by, taken-by, told-by}
-use Rattle.cuts.specs.Arrays.{row, front-of, number-of, sets-of, stored-held, stored-acts, stored-row, Stored, Usable, Holds}
+use Rattle.cuts.specs.Arrays.{row, number-of, sets-of, stored-held, stored-acts, stored-row, Stored, Holds}
 use Rattle.session.specs.declared.Session.{Session}
 use Rattle.session.specs.declared.Answer.{Answer}
-use Rattle.session.specs.declared.Stepped.{Stepped}
-use Rattle.session.specs.Record.{count-of, latest-of, blind-of, cuts-of, record-of, out-of-range}
-use Rattle.session.specs.Step.{answer-of, refusal-of, stepped-of, no-property, no-session}
+use Rattle.session.specs.Record.{count-of, cuts-of, record-of, out-of-range}
+use Rattle.session.specs.Step.{answer-of, refusal-of, no-property, no-session}
 use Rattle.session.specs.Lent.{in-arrays, blank, tidied, Ready, Advanced}
 use Rattle.session.proofs.Range.{Ranged, ranged}
 use Rattle.session.proofs.Map.{stamp-stored, stored-fits, front-back}
@@ -49,7 +47,9 @@ fit-holds p good {c} f =
                   held-long = length-first _ 64;
                   acts-long = length-first _ 64;
                   held-clean = λ i h. padded-behind 0 (map (λ (x : Held Lengths). x .line .stamp) (g .held)) 64 i (omega (arith, length-map (g .held) (λ (x : Held Lengths). x .line .stamp)));
-                  acts-clean = λ i h. padded-behind 0 (map (λ (x : Held Lengths). number-of (x .line .action)) (g .held)) 64 i (omega (arith, length-map (g .held) (λ (x : Held Lengths). number-of (x .line .action))));
+                  acts-clean = λ i h.
+                      padded-behind 0 (map (λ (x : Held Lengths). number-of (x .line .action)) (g .held)) 64 i
+                      (omega (arith, length-map (g .held) (λ (x : Held Lengths). number-of (x .line .action))));
                 };
             stamps = λ i h.
                 omega (arith, stamp-stored p good g (f .few) (order-inputs (f .order)) (f .short) i h, order-within (nothing none-of) (f .order) i h, f .limit);

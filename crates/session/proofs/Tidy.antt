@@ -1,8 +1,8 @@
 -- Zeros in places not in use: the arrays are then those of the session over cuts that the record stands for.
-use Prim.Native.Nat.{ℕ, suc, _+_, _≤_, _<_}
+use Prim.Native.Nat.{ℕ, _+_, _≤_}
 use mathlib.Core.Path.{_≡_, refl, sym, _∙_, ap, ap₂, subst}
 use mathlib.Core.Bool.{Bool, true, false, cond}
-use mathlib.Core.List.{List, [], _∷_}
+use mathlib.Core.List.{List, []}
 use native.Mathlib.Omega.{arith}
 use lib.ListN.{length, getD}
 use Rattle.laws.specs.Places.{first}
@@ -10,7 +10,6 @@ use Rattle.laws.specs.Filled.{Filled}
 use Rattle.laws.specs.Bits.{mask-to}
 use Rattle.laws.proofs.Places.{padded-is}
 use Rattle.laws.proofs.Filled.{filled-clean}
-use Rattle.meaning.specs.Limits.{last-stamp}
 use Rattle.meaning.specs.Matcher.{Lengths}
 use Rattle.meaning.specs.Words.{Action}
 use Rattle.meaning.specs.Calls.{Call}

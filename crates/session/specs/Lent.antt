@@ -51,7 +51,7 @@ pub record Advanced (s : Session) (c : Call) (a : Answer) (after : Session) : Ty
   pub ready : Ready after
 
 -- A line of a run, taken: the arrays are those of the front after it, and the answer is read off that front.
-pub record Taken (p : Property) (f : Front Lengths) (t : ℕ) (held acts masks marks : List ℕ) (r : Told) : Type 0 where
+pub record LineTaken (p : Property) (f : Front Lengths) (t : ℕ) (held acts masks marks : List ℕ) (r : Told) : Type 0 where
   pub holds : Holds p f held acts (r .status .count) (row masks marks)
   pub answered : r .answer ≡ answer-of (says p (front-says p f) (length (f .held)))
   pub stamped : r .status .latest ≡ t

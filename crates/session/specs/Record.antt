@@ -6,7 +6,7 @@ use lib.Dec.{eqb, ltb}
 use Rattle.meaning.specs.Limits.{last-stamp, most-open}
 use Rattle.meaning.specs.Numbers.{property-refusal}
 use Rattle.meaning.specs.Matcher.{Lengths, some-to}
-use Rattle.meaning.specs.Step.{Front, Cuts}
+use Rattle.meaning.specs.Step.{Cuts}
 use Rattle.property.specs.Meant.{meant}
 use Rattle.property.specs.declared.Property.{Property}
 use Rattle.matcher.specs.Sets.{stray}

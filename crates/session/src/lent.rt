@@ -16,7 +16,7 @@ ghost use Rattle.cuts.specs.Steps.{line-of, front-after};
 ghost use Rattle.cuts.specs.Arrays.{row, front-of, Usable};
 ghost use Rattle.session.specs.Record.{out-of-range};
 ghost use Rattle.session.specs.Step.{answer-of};
-ghost use Rattle.session.specs.Lent.{in-arrays, tidied, Whole, Ready, Advanced, Taken};
+ghost use Rattle.session.specs.Lent.{in-arrays, tidied, Whole, Ready, Advanced, LineTaken};
 use crate::Answer;
 use held::Status;
 use limits::LAST_ACTION;
@@ -122,7 +122,8 @@ pub fn tidy(
     status: Status,
 )
     requires { ⌜ Whole (now held) (now acts) (now masks) (now marks) × (out-of-range (in-arrays p (now held) (now acts) (now masks) (now marks) status) ≡ false) ⌝ }
-    ensures { λ _. ⌜ in-arrays p (now (held .exit)) (now (acts .exit)) (now (masks .exit)) (now (marks .exit)) status ≡ tidied (in-arrays p (now (held .entry)) (now (acts .entry)) (now (masks .entry)) (now (marks .entry)) status) ⌝ }
+    ensures { λ _. ⌜ in-arrays p (now (held .exit)) (now (acts .exit)) (now (masks .exit)) (now (marks .exit)) status
+        ≡ tidied (in-arrays p (now (held .entry)) (now (acts .entry)) (now (masks .entry)) (now (marks .entry)) status) ⌝ }
 {
     let count = status.count;
     held::tidy(held, acts, count);
@@ -158,7 +159,9 @@ fn run_on(
 ) -> Told
     requires { ⌜ Usable p (now held) (now acts) count (row (now masks) (now marks)) × IsTable p (now table) ⌝ }
     requires { ⌜ Closes (p .ub) (now held) count t closed × (t ≤ last-stamp) × (count - closed + cond out 0 1 ≤ most-open) ⌝ }
-    ensures { λ r. ⌜ Taken p (front-after p (front-of (now (held .entry)) (now (acts .entry)) count (row (now (masks .entry)) (now (marks .entry)))) (line-of out act t)) t (now (held .exit)) (now (acts .exit)) (now (masks .exit)) (now (marks .exit)) r ⌝ }
+    ensures { λ r. ⌜ LineTaken p
+        (front-after p (front-of (now (held .entry)) (now (acts .entry)) count (row (now (masks .entry)) (now (marks .entry)))) (line-of out act t)) t
+        (now (held .exit)) (now (acts .exit)) (now (masks .exit)) (now (marks .exit)) r ⌝ }
 {
     let left = cuts::take_line(
         p,
@@ -199,7 +202,9 @@ pub fn line(
     t: u64,
 ) -> Told
     requires { ⌜ Ready (in-arrays p (now held) (now acts) (now masks) (now marks) status) × IsTable p (now table) ⌝ }
-    ensures { λ r. ⌜ Advanced (in-arrays p (now (held .entry)) (now (acts .entry)) (now (masks .entry)) (now (marks .entry)) status) (Call.line (line-of out act t)) (r .answer) (in-arrays p (now (held .exit)) (now (acts .exit)) (now (masks .exit)) (now (marks .exit)) (r .status)) ⌝ }
+    ensures { λ r. ⌜ Advanced (in-arrays p (now (held .entry)) (now (acts .entry)) (now (masks .entry)) (now (marks .entry)) status)
+        (Call.line (line-of out act t)) (r .answer)
+        (in-arrays p (now (held .exit)) (now (acts .exit)) (now (masks .exit)) (now (marks .exit)) (r .status)) ⌝ }
 {
     let number = line_refused(act, status.latest, t);
     if number != 0 {
@@ -243,7 +248,9 @@ pub fn mark(
     g: u64,
 ) -> Told
     requires { ⌜ Ready (in-arrays p (now held) (now acts) (now masks) (now marks) status) ⌝ }
-    ensures { λ r. ⌜ Advanced (in-arrays p (now (held .entry)) (now (acts .entry)) (now (masks .entry)) (now (marks .entry)) status) (Call.mark (record { stamp = g })) (r .answer) (in-arrays p (now (held .exit)) (now (acts .exit)) (now (masks .exit)) (now (marks .exit)) (r .status)) ⌝ }
+    ensures { λ r. ⌜ Advanced (in-arrays p (now (held .entry)) (now (acts .entry)) (now (masks .entry)) (now (marks .entry)) status)
+        (Call.mark (record { stamp = g })) (r .answer)
+        (in-arrays p (now (held .exit)) (now (acts .exit)) (now (masks .exit)) (now (marks .exit)) (r .status)) ⌝ }
 {
     let number = stamp_refused(status.latest, g);
     if number != 0 {

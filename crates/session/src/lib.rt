@@ -164,7 +164,7 @@ pub fn line(s: Session, output: bool, action: u8, stamp: u64) -> Stepped
     let mut marks = row.marks;
     let status = shared.status;
     lent::tidy(p, &mut held, &mut acts, &mut masks, &mut marks, status);
-    let r = lent::line(
+    let told = lent::line(
         p,
         &table,
         &mut held,
@@ -176,13 +176,13 @@ pub fn line(s: Session, output: bool, action: u8, stamp: u64) -> Stepped
         action,
         stamp,
     );
-    let answer = r.answer;
+    let answer = told.answer;
     if answer.refusal != 0 {
         return unmoved(s, answer.refusal);
     }
     Stepped {
         answer: answer,
-        session: made(p, held, acts, masks, marks, r.status),
+        session: made(p, held, acts, masks, marks, told.status),
     }
 }
 
@@ -202,7 +202,7 @@ pub fn mark(s: Session, stamp: u64) -> Stepped
     let mut marks = row.marks;
     let status = shared.status;
     lent::tidy(p, &mut held, &mut acts, &mut masks, &mut marks, status);
-    let r = lent::mark(
+    let marked = lent::mark(
         p,
         &mut held,
         &mut acts,
@@ -211,12 +211,12 @@ pub fn mark(s: Session, stamp: u64) -> Stepped
         status,
         stamp,
     );
-    let answer = r.answer;
-    if answer.refusal != 0 {
-        return unmoved(s, answer.refusal);
+    let closing = marked.answer;
+    if closing.refusal != 0 {
+        return unmoved(s, closing.refusal);
     }
     Stepped {
-        answer: answer,
-        session: made(p, held, acts, masks, marks, r.status),
+        answer: closing,
+        session: made(p, held, acts, masks, marks, marked.status),
     }
 }

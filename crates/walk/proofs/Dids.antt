@@ -17,7 +17,6 @@ use Rattle.session.specs.Record.{latest-of}
 use Rattle.session.specs.Step.{stepped-of}
 use Rattle.session.specs.Lent.{Ready, Advanced}
 use Rattle.session.proofs.Steps.{step-refused, answer-refusal}
-use Rattle.walk.specs.declared.Did.{Did}
 use Rattle.walk.specs.declared.Did.the-variants.{Took, Ended, Not}
 use Rattle.walk.specs.declared.Walked.{Walked}
 use Rattle.walk.specs.Walk.{One, one-call, try-call, one-read, one-of, one-more, walked-by}

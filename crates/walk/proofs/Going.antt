@@ -1,5 +1,5 @@
 -- A walk on its way: what has been taken and read so far, and what is left of the walk.
-use Prim.Native.Nat.{ℕ, zero, suc, _+_, _-_, _≤_, _<_}
+use Prim.Native.Nat.{ℕ, suc, _+_, _-_, _≤_, _<_}
 use mathlib.Core.Path.{_≡_, refl, sym, _∙_, ap, subst}
 use mathlib.Core.Bool.{Bool, true, false, cond}
 use mathlib.Core.List.{List}
@@ -15,7 +15,7 @@ use Rattle.walk.specs.declared.Stop.the-variants.{Budget, End, Refused}
 use Rattle.walk.specs.declared.Did.{Did}
 use Rattle.walk.specs.declared.Did.the-variants.{Took, Ended, Not}
 use Rattle.walk.specs.declared.Walked.{Walked}
-use Rattle.walk.specs.Walk.{One, one-of, stopped, one-more, walked-by, walk-on, in-numbers, budget-of, walk-of}
+use Rattle.walk.specs.Walk.{one-of, stopped, one-more, walked-by, walk-on, in-numbers, budget-of, walk-of}
 use Rattle.walk.specs.Lent.{did-by, Turned, HasGone}
 
 -- so many records and bytes before a walk

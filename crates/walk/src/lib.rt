@@ -1,6 +1,5 @@
 // The walk: records of a trace, one after the other, on a session.
 ghost use mathlib.Core.Path.{_≡_};
-ghost use Prim.Native.Nat.{ℕ, _≤_};
 ghost use lib.ListN.{length};
 ghost use Rattle.fields.specs.Rest.{Rest};
 ghost use Rattle.matcher.specs.Table.{IsTable};
@@ -92,7 +91,9 @@ fn one_record(
     bytes: &[u8],
 ) -> Turn
     requires { ⌜ Ready (in-arrays p (now held) (now acts) (now masks) (now marks) status) × IsTable p (now table) ⌝ }
-    ensures { λ r. ⌜ Turned (in-arrays p (now (held .entry)) (now (acts .entry)) (now (masks .entry)) (now (marks .entry)) status) (now (bytes .entry)) (r .did) (in-arrays p (now (held .exit)) (now (acts .exit)) (now (masks .exit)) (now (marks .exit)) (r .status)) ⌝ }
+    ensures { λ r. ⌜ Turned (in-arrays p (now (held .entry)) (now (acts .entry)) (now (masks .entry)) (now (marks .entry)) status)
+        (now (bytes .entry)) (r .did)
+        (in-arrays p (now (held .exit)) (now (acts .exit)) (now (masks .exit)) (now (marks .exit)) (r .status)) ⌝ }
 {
     let record = record_form::read_record(bytes, status.latest);
     match record {
@@ -149,7 +150,9 @@ pub fn records(
     budget: usize,
 ) -> Went
     requires { ⌜ Ready (in-arrays p (now held) (now acts) (now masks) (now marks) status) × IsTable p (now table) ⌝ }
-    ensures { λ r. ⌜ HasGone budget (in-arrays p (now (held .entry)) (now (acts .entry)) (now (masks .entry)) (now (marks .entry)) status) (now (trace .entry)) (r .taken) (r .stop) (r .read) (in-arrays p (now (held .exit)) (now (acts .exit)) (now (masks .exit)) (now (marks .exit)) (r .status)) ⌝ }
+    ensures { λ r. ⌜ HasGone budget (in-arrays p (now (held .entry)) (now (acts .entry)) (now (masks .entry)) (now (marks .entry)) status)
+        (now (trace .entry)) (r .taken) (r .stop) (r .read)
+        (in-arrays p (now (held .exit)) (now (acts .exit)) (now (masks .exit)) (now (marks .exit)) (r .status)) ⌝ }
 {
     let mut taken = 0;
     let mut at = 0;

@@ -1,5 +1,4 @@
 -- `cuts::verdict` meets its contract: the last set is that of the last cut.
-use Prim.Native.Nat.{ℕ}
 use mathlib.Core.Path.{sym, ap, subst, _∙_}
 use borrow.Author.Needs.{needs}
 use Rattle.meaning.specs.Node.{verdict-number}

@@ -1,5 +1,5 @@
--- `kept::next` meets its contract: each arm is given which constructor the event is, at which `call-of` computes to the call that the arm makes. Assumes nothing.
-use mathlib.Core.Path.{_≡_, sym, ap, _∙_}
+-- `kept::next` meets its contract: each arm is given which constructor the event is, at which `call-of` computes to the call that the arm makes.
+use mathlib.Core.Path.{sym, ap, _∙_}
 use borrow.Author.Needs.{needs}
 use Rattle.session.specs.Step.{stepped-of}
 use Rattle.kept.specs.Event.{call-of}

@@ -3,7 +3,7 @@ use borrow.Author.Needs.{needs}
 use mathlib.Core.Path.{sym, _∙_}
 use Rattle.property.specs.Meant.{action-of}
 use Rattle.matcher.specs.Table.{action-at}
-use Rattle.matcher.proofs.Matching.{fall-back-here, fall-back-none, fall-back-down}
+use Rattle.matcher.proofs.Recursion.{fall-back-here, fall-back-none, fall-back-down}
 use Prim.Native.Nat.{ℕ, _<_}
 use borrow.Fn.Kinds.{In}
 use borrow.Fn.PlainCycle.{Measures, is, falls, and}
@@ -46,7 +46,10 @@ fall-back-returns : (t : ℕ) → fall-back-lts.Need-returns (
   fall-back-below t,
   fall-back.Post,
 ) (fall-back-at t) fall-back.Post
-fall-back-returns t c = fall-back-here (action-at (c .before .before .args .output .now) (c .before .before .args .number .now)) (c .before .before .args .n) (c .before .before .args .k) (c .before .before .args .j) (action-of (c .before .before .args .out) (c .before .before .args .act)) (sym (c .before .goes-on .ensures) ∙ c .if1 .taken)
+fall-back-returns t c =
+    let a = c .before .before .args in
+    fall-back-here (action-at (a .output .now) (a .number .now)) (a .n) (a .k) (a .j) (action-of (a .out) (a .act))
+    (sym (c .before .goes-on .ensures) ∙ c .if1 .taken)
 
 fall-back-returns-2 : (t : ℕ) → fall-back-lts.Need-returns-2 (
   goes-on-reads.Asked,
@@ -54,7 +57,10 @@ fall-back-returns-2 : (t : ℕ) → fall-back-lts.Need-returns-2 (
   fall-back-below t,
   fall-back.Post,
 ) (fall-back-at t) fall-back.Post
-fall-back-returns-2 t c = fall-back-none (action-at (c .before .before .before .args .output .now) (c .before .before .before .args .number .now)) (c .before .before .before .args .n) (c .before .before .before .args .k) (c .before .before .before .args .j) (action-of (c .before .before .before .args .out) (c .before .before .before .args .act)) (sym (c .before .before .goes-on .ensures) ∙ c .before .if1 .left) (c .if2 .taken)
+fall-back-returns-2 t c =
+    let a = c .before .before .before .args in
+    fall-back-none (action-at (a .output .now) (a .number .now)) (a .n) (a .k) (a .j) (action-of (a .out) (a .act))
+    (sym (c .before .before .goes-on .ensures) ∙ c .before .if1 .left) (c .if2 .taken)
 
 fall-back-sub-fall-back : (t : ℕ) → fall-back-lts.Need-sub-fall-back (
   goes-on-reads.Asked,
@@ -78,7 +84,11 @@ fall-back-returns-3 : (t : ℕ) → fall-back-lts.Need-returns-3 (
   fall-back-below t,
   fall-back.Post,
 ) (fall-back-at t) fall-back.Post
-fall-back-returns-3 t c = c .fall-back .ensures ∙ fall-back-down (action-at (c .before .before .before .before .args .output .now) (c .before .before .before .before .args .number .now)) (c .before .before .before .before .args .n) (c .before .before .before .before .args .k) (c .before .before .before .before .args .j) (action-of (c .before .before .before .before .args .out) (c .before .before .before .before .args .act)) (sym (c .before .before .before .goes-on .ensures) ∙ c .before .before .if1 .left) (c .before .if2 .left)
+fall-back-returns-3 t c =
+    let a = c .before .before .before .before .args in
+    c .fall-back .ensures
+    ∙ fall-back-down (action-at (a .output .now) (a .number .now)) (a .n) (a .k) (a .j) (action-of (a .out) (a .act))
+    (sym (c .before .before .before .goes-on .ensures) ∙ c .before .before .if1 .left) (c .before .if2 .left)
 
 pub +fall-back-spec : {M : Type 1} → statement M
 +fall-back-spec = close μ-fall-back λ t. fall-back-lts.spec (

@@ -2,7 +2,7 @@
 use borrow.Author.Needs.{needs}
 use Prim.Native.Nat.{_≤_}
 use mathlib.Core.Path.{_≡_, sym, _∙_}
-use Rattle.matcher.proofs.Matching.{ends-mismatch, ends-match, ends-none}
+use Rattle.matcher.proofs.Recursion.{ends-mismatch, ends-match, ends-none}
 use Rattle.meaning.specs.Matcher.{ends}
 use Rattle.matcher.specs.Table.{action-at}
 use Rattle.matcher.proofs.ends.Statement.{statement}

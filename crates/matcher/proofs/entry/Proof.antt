@@ -3,8 +3,8 @@ use mathlib.Core.Path.{sym, _∙_}
 use native.Mathlib.Omega.{arith}
 use lib.ListN.{getD}
 use Rattle.property.specs.Meant.{action-of}
-use Rattle.matcher.specs.Table.{action-at, Shorter}
-use Rattle.matcher.proofs.Matching.{fall-back-here}
+use Rattle.matcher.specs.Table.{action-at}
+use Rattle.matcher.proofs.Recursion.{fall-back-here}
 use Rattle.matcher.proofs.Falling.{entry-none, entry-shorter}
 use borrow.Author.Needs.{needs}
 use Rattle.matcher.proofs.entry.Statement.{statement}
@@ -20,10 +20,16 @@ cast-result : tie.Need-cast-result
 cast-result c = search needs
 
 returns : tie.Need-returns
-returns c = fall-back-here (action-at (c .before .before .args .output .now) (c .before .before .args .number .now)) (c .before .before .args .n) (c .before .before .args .k) (c .before .before .args .k) (action-of (c .before .before .args .out) (c .before .before .args .act)) (sym (c .before .next-is .ensures) ∙ c .if1 .taken)
+returns c =
+    let a = c .before .before .args in
+    fall-back-here (action-at (a .output .now) (a .number .now)) (a .n) (a .k) (a .k) (action-of (a .out) (a .act))
+    (sym (c .before .next-is .ensures) ∙ c .if1 .taken)
 
 returns-2 : tie.Need-returns-2
-returns-2 c = entry-none (action-at (c .before .before .before .args .output .now) (c .before .before .before .args .number .now)) (c .before .before .before .args .n) (action-of (c .before .before .before .args .out) (c .before .before .before .args .act)) (c .before .before .before .args .k) (sym (c .before .before .next-is .ensures) ∙ c .before .if1 .left) (c .if2 .taken)
+returns-2 c =
+    let a = c .before .before .before .args in
+    entry-none (action-at (a .output .now) (a .number .now)) (a .n) (action-of (a .out) (a .act)) (a .k)
+    (sym (c .before .before .next-is .ensures) ∙ c .before .if1 .left) (c .if2 .taken)
 
 element-copy-out-f : tie.Need-element-copy-out-f
 element-copy-out-f c = search needs
@@ -31,27 +37,28 @@ element-copy-out-f c = search needs
 cast-f : tie.Need-cast-f
 cast-f c =
     let a = c .before .before .before .before .args in
-    let sh : Shorter (action-at (c .before .before .before .before .args .output .now) (c .before .before .before .before .args .number .now)) (a .k) (getD (a .falls .now) (a .k) 0) = c .before .before .before .before .pre .1 .0 (a .k) (omega arith) (omega arith) in
+    let sh = c .before .before .before .before .pre .1 .0 (a .k) (omega arith) (omega arith) in
     record { fits = omega (arith, sh .less) }
 
 add-result-2 : tie.Need-add-result-2
 add-result-2 c =
     let a = c .before .before .before .before .args in
-    let sh : Shorter (action-at (c .before .before .before .before .args .output .now) (c .before .before .before .before .args .number .now)) (a .k) (getD (a .falls .now) (a .k) 0) = c .before .before .before .before .pre .1 .0 (a .k) (omega arith) (omega arith) in
+    let sh = c .before .before .before .before .pre .1 .0 (a .k) (omega arith) (omega arith) in
     record { fits = omega (arith, sh .less) }
 
 element-copy-out-result : tie.Need-element-copy-out-result
 element-copy-out-result c =
     let a = c .before .before .before .before .args in
-    let sh : Shorter (action-at (c .before .before .before .before .args .output .now) (c .before .before .before .before .args .number .now)) (a .k) (getD (a .falls .now) (a .k) 0) = c .before .before .before .before .pre .1 .0 (a .k) (omega arith) (omega arith) in
+    let sh = c .before .before .before .before .pre .1 .0 (a .k) (omega arith) (omega arith) in
     omega (arith, sh .less)
 
 returns-3 : tie.Need-returns-3
 returns-3 c =
     let a = c .before .before .before .before .before .args in
-    let sh : Shorter (action-at (c .before .before .before .before .before .args .output .now) (c .before .before .before .before .before .args .number .now)) (a .k) (getD (a .falls .now) (a .k) 0) = c .before .before .before .before .before .pre .1 .0 (a .k) (omega arith) (omega arith) in
+    let sh = c .before .before .before .before .before .pre .1 .0 (a .k) (omega arith) (omega arith) in
     c .before .before .before .before .before .pre .1 .1 (getD (a .falls .now) (a .k) 0) (sh .less)
-    ∙ entry-shorter (action-at (c .before .before .before .before .before .args .output .now) (c .before .before .before .before .before .args .number .now)) (a .n) (action-of (c .before .before .before .before .before .args .out) (c .before .before .before .before .before .args .act)) (a .k) (getD (a .falls .now) (a .k) 0) (sym (c .before .before .before .before .next-is .ensures) ∙ c .before .before .before .if1 .left) (c .before .before .if2 .left) sh
+    ∙ entry-shorter (action-at (a .output .now) (a .number .now)) (a .n) (action-of (a .out) (a .act)) (a .k) (getD (a .falls .now) (a .k) 0)
+    (sym (c .before .before .before .before .next-is .ensures) ∙ c .before .before .before .if1 .left) (c .before .before .if2 .left) sh
 
 pub entry-spec : {M : Type 1} → statement M
 entry-spec =

@@ -4,11 +4,10 @@ use mathlib.Core.Path.{_≡_, sym, ap, subst, _∙_}
 use native.Mathlib.Nat.{add-zero, add-assoc}
 use native.Mathlib.Omega.{arith}
 use lib.ListN.{set}
-use Rattle.meaning.specs.Words.{Action}
 use Rattle.laws.specs.Filled.{Filled}
 use Rattle.matcher.specs.Table.{action-at, row-entry}
 use Rattle.laws.proofs.Filled.{filled-none, filled-more}
-use Rattle.matcher.proofs.Rows.{row-le, row-entry-at}
+use Rattle.matcher.proofs.TableRows.{row-le, row-entry-at}
 use borrow.Author.Needs.{needs}
 use Rattle.matcher.proofs.fill_row.Statement.{statement}
 use Rattle.matcher.proofs.fill_row.Tie as tie
@@ -23,7 +22,13 @@ row-requires : tie.Need-row-requires Inv-loop μ-loop
 row-requires c κs = search needs
 
 loop-holds : tie.Need-loop-holds Inv-loop μ-loop
-loop-holds c = (omega arith, subst (λ (e : ℕ). Filled 0 (c .row .result) e (row-entry (action-at (c .before .args .output .now) (c .before .args .number .now)) (c .before .args .n) (c .before .args .out) (c .before .args .act)) (c .before .args .table .now) (c .before .args .table .now)) (sym (add-zero (c .row .result))) (filled-none 0 (c .row .result) (row-entry (action-at (c .before .args .output .now) (c .before .args .number .now)) (c .before .args .n) (c .before .args .out) (c .before .args .act)) (c .before .args .table .now)))
+loop-holds c =
+    let a = c .before .args in
+    let at = c .row .result in
+    let g = row-entry (action-at (a .output .now) (a .number .now)) (a .n) (a .out) (a .act) in (
+      omega arith,
+      subst (λ (e : ℕ). Filled 0 at e g (a .table .now) (a .table .now)) (sym (add-zero at)) (filled-none 0 at g (a .table .now)),
+    )
 
 entry-requires : tie.Need-entry-requires Inv-loop μ-loop
 entry-requires c κs =
@@ -35,15 +40,19 @@ entry-requires c κs =
         c .before .before .before .before .pre .1,
         λ j h.
             w .inv .1 .inside (at + j) (omega arith) (omega arith)
-            ∙ row-entry-at (action-at (c .before .before .before .before .args .output .now) (c .before .before .before .before .args .number .now)) (a .n) (a .out) (a .act) at j (c .before .before .before .row .ensures),
+            ∙ row-entry-at (action-at (a .output .now) (a .number .now)) (a .n) (a .out) (a .act) at j (c .before .before .before .row .ensures),
       ),
     )
 
 add-table : tie.Need-add-table Inv-loop μ-loop
-add-table c = record { fits = omega (arith, c .before .before .before .before .row .ensures, row-le (c .before .before .before .before .before .args .out) (c .before .before .before .before .before .args .act)) }
+add-table c =
+    let a = c .before .before .before .before .before .args in
+    record { fits = omega (arith, c .before .before .before .before .row .ensures, row-le (a .out) (a .act)) }
 
 element-write-table : tie.Need-element-write-table Inv-loop μ-loop
-element-write-table c = omega (arith, c .before .before .before .before .row .ensures, row-le (c .before .before .before .before .before .args .out) (c .before .before .before .before .before .args .act))
+element-write-table c =
+    let a = c .before .before .before .before .before .args in
+    omega (arith, c .before .before .before .before .row .ensures, row-le (a .out) (a .act))
 
 add-k : tie.Need-add-k Inv-loop μ-loop
 add-k c = search needs
@@ -56,7 +65,7 @@ loop-again c =
     let a = c .before .before .before .before .before .args in
     let w = c .before .before .before .loop in
     let at = c .before .before .before .before .row .result in
-    let s : ℕ → Action = (action-at (c .before .before .before .before .before .args .output .now) (c .before .before .before .before .before .args .number .now)) in (
+    let s = action-at (a .output .now) (a .number .now) in (
       search needs,
       subst (λ (e : ℕ). Filled 0 at e (row-entry s (a .n) (a .out) (a .act)) (a .table .now) (set (w .table) (at + w .k) (c .entry .result)))
           (add-assoc at (w .k) 1)
@@ -71,7 +80,7 @@ returns : tie.Need-returns Inv-loop μ-loop
 returns c =
     let a = c .before .before .before .args in
     let w = c .before .loop in
-    let s : ℕ → Action = (action-at (c .before .before .before .args .output .now) (c .before .before .before .args .number .now)) in
+    let s = action-at (a .output .now) (a .number .now) in
     let at = c .before .before .row .result in
     let to : w .k ≡ a .n + 1 = omega arith in
     subst (λ (r : ℕ). Filled 0 r (r + a .n + 1) (row-entry s (a .n) (a .out) (a .act)) (a .table .now) (w .table)) (c .before .before .row .ensures)

@@ -2,7 +2,7 @@
 use borrow.Author.Needs.{needs}
 use Rattle.property.specs.Meant.{action-of}
 use Rattle.matcher.specs.Table.{action-at}
-use Rattle.matcher.proofs.Matching.{goes-on-there, goes-on-other, goes-on-past}
+use Rattle.matcher.proofs.Recursion.{goes-on-there, goes-on-other, goes-on-past}
 use Rattle.matcher.proofs.goes_on.Statement.{statement}
 use Rattle.matcher.proofs.goes_on.Tie as tie
 
@@ -21,12 +21,14 @@ ends-requires c κs = search needs
 returns : tie.Need-returns
 returns c =
     let a = c .before .before .before .before .before .before .args in
-    goes-on-there (action-at (a .output .now) (a .number .now)) (a .n) (a .k) (a .j) (action-of (a .out) (a .act)) (c .before .before .before .before .before .if1 .taken) (c .before .before .same .result) (c .ends .result) (c .before .before .same .ensures) (c .before .if2 .taken) (c .ends .ensures)
+    goes-on-there (action-at (a .output .now) (a .number .now)) (a .n) (a .k) (a .j) (action-of (a .out) (a .act))
+    (c .before .before .before .before .before .if1 .taken) (c .before .before .same .result) (c .ends .result) (c .before .before .same .ensures) (c .before .if2 .taken) (c .ends .ensures)
 
 returns-2 : tie.Need-returns-2
 returns-2 c =
     let a = c .before .before .before .before .before .args in
-    goes-on-other (action-at (a .output .now) (a .number .now)) (a .n) (a .k) (a .j) (action-of (a .out) (a .act)) (c .before .before .before .before .if1 .taken) (c .before .same .result) (c .before .same .ensures) (c .if2 .left)
+    goes-on-other (action-at (a .output .now) (a .number .now)) (a .n) (a .k) (a .j) (action-of (a .out) (a .act))
+    (c .before .before .before .before .if1 .taken) (c .before .same .result) (c .before .same .ensures) (c .if2 .left)
 
 returns-3 : tie.Need-returns-3
 returns-3 c =

@@ -1,7 +1,7 @@
 -- `matcher::next_is` meets its contract: the first k always end the first k.
 use Rattle.property.specs.Meant.{action-of}
 use Rattle.matcher.specs.Table.{action-at}
-use Rattle.matcher.proofs.Matching.{goes-on-past}
+use Rattle.matcher.proofs.Recursion.{goes-on-past}
 use Rattle.matcher.proofs.Falling.{next-there}
 use borrow.Author.Needs.{needs}
 use Rattle.matcher.proofs.next_is.Statement.{statement}
@@ -17,10 +17,15 @@ same-requires : tie.Need-same-requires
 same-requires c κs = search needs
 
 returns : tie.Need-returns
-returns c = next-there (action-at (c .before .before .before .before .args .output .now) (c .before .before .before .before .args .number .now)) (c .before .before .before .before .args .n) (action-of (c .before .before .before .before .args .out) (c .before .before .before .before .args .act)) (c .before .before .before .before .args .k) (c .before .before .before .if1 .taken) (c .same .result) (c .same .ensures)
+returns c =
+    let a = c .before .before .before .before .args in
+    next-there (action-at (a .output .now) (a .number .now)) (a .n) (action-of (a .out) (a .act)) (a .k)
+    (c .before .before .before .if1 .taken) (c .same .result) (c .same .ensures)
 
 returns-2 : tie.Need-returns-2
-returns-2 c = goes-on-past (action-at (c .before .args .output .now) (c .before .args .number .now)) (c .before .args .n) (c .before .args .k) (c .before .args .k) (action-of (c .before .args .out) (c .before .args .act)) (c .if1 .left)
+returns-2 c =
+    let a = c .before .args in
+    goes-on-past (action-at (a .output .now) (a .number .now)) (a .n) (a .k) (a .k) (action-of (a .out) (a .act)) (c .if1 .left)
 
 pub next-is-spec : {M : Type 1} → statement M
 next-is-spec =

@@ -6,7 +6,7 @@ use native.Mathlib.Omega.{arith}
 use lib.ListN.{length, getD, replicate, length-set}
 use Rattle.matcher.specs.Table.{action-at, Shorter}
 use Rattle.matcher.proofs.Falling.{shorter-found, shorter-one, shorter-more}
-use Rattle.matcher.proofs.Matching.{fall-back-le}
+use Rattle.matcher.proofs.Recursion.{fall-back-le}
 use Rattle.matcher.proofs.shorter.Statement.{statement}
 use Rattle.matcher.proofs.shorter.Tie as tie
 
@@ -21,8 +21,9 @@ loop-holds c = (
   search needs,
   refl,
   λ j p q.
-      subst (λ (x : ℕ). Shorter (action-at (c .args .output .now) (c .args .number .now)) x (getD (replicate {A = ℕ} 33 0) x 0)) (let e : 1 ≡ j = omega arith in e)
-      (shorter-one (action-at (c .args .output .now) (c .args .number .now)) (c .args .n)),
+      let a = c .args in
+      let s = action-at (a .output .now) (a .number .now) in
+      subst (λ (x : ℕ). Shorter s x (getD (replicate {A = ℕ} 33 0) x 0)) (let e : 1 ≡ j = omega arith in e) (shorter-one s (a .n)),
 )
 
 element-copy-out-fall-back : tie.Need-element-copy-out-fall-back Inv-loop μ-loop
@@ -38,7 +39,11 @@ fall-back-requires : tie.Need-fall-back-requires Inv-loop μ-loop
 fall-back-requires c κs = search needs
 
 cast-falls : tie.Need-cast-falls Inv-loop μ-loop
-cast-falls c = record { fits = omega (arith, c .fall-back .ensures, fall-back-le (action-at (c .before .before .before .before .before .args .output .now) (c .before .before .before .before .before .args .number .now)) (c .before .before .before .before .before .args .n) (c .before .before .before .before .loop .k) (c .before .before .before .before .loop .k - 1) ((action-at (c .before .before .before .before .before .args .output .now) (c .before .before .before .before .before .args .number .now)) (c .before .before .before .before .loop .k))) }
+cast-falls c =
+    let a = c .before .before .before .before .before .args in
+    let k = c .before .before .before .before .loop .k in
+    let s = action-at (a .output .now) (a .number .now) in
+    record { fits = omega (arith, c .fall-back .ensures, fall-back-le s (a .n) k (k - 1) (s k)) }
 
 add-falls : tie.Need-add-falls Inv-loop μ-loop
 add-falls c = search needs
@@ -55,11 +60,13 @@ loop-less c = search needs
 loop-again : tie.Need-loop-again Inv-loop μ-loop
 loop-again c =
     let a = c .before .before .before .before .before .args in
+    let s = action-at (a .output .now) (a .number .now) in
     let w = c .before .before .before .before .loop in (
       search needs,
       length-set (w .falls) (w .k + 1) (c .fall-back .result) ∙ w .inv .1,
-      shorter-more (action-at (c .before .before .before .before .before .args .output .now) (c .before .before .before .before .before .args .number .now)) (w .falls) (w .k) (c .fall-back .result) (omega (arith, w .inv .1)) (w .inv .2)
-          (subst (λ (x : ℕ). Shorter (action-at (c .before .before .before .before .before .args .output .now) (c .before .before .before .before .before .args .number .now)) (w .k + 1) x) (sym (c .fall-back .ensures)) (shorter-found (action-at (c .before .before .before .before .before .args .output .now) (c .before .before .before .before .before .args .number .now)) (a .n) (w .k) (omega arith) (omega arith))),
+      shorter-more s (w .falls) (w .k) (c .fall-back .result) (omega (arith, w .inv .1)) (w .inv .2)
+          (subst (λ (x : ℕ). Shorter s (w .k + 1) x) (sym (c .fall-back .ensures))
+          (shorter-found s (a .n) (w .k) (omega arith) (omega arith))),
     )
 
 returns : tie.Need-returns Inv-loop μ-loop

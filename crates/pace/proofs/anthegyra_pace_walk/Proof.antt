@@ -1,5 +1,5 @@
 -- `pace::anthegyra_pace_walk` meets its contract. The loop: the number that the last walk took.
-use Prim.Native.Nat.{ℕ, zero, suc, _+_, _-_, _≤_}
+use Prim.Native.Nat.{ℕ, _+_, _-_, _≤_}
 use mathlib.Core.Path.{_≡_, refl, sym, ap, _∙_}
 use mathlib.Core.List.{List}
 use native.Mathlib.Omega.{arith}
@@ -13,20 +13,20 @@ use Rattle.session.specs.declared.Stepped.{Stepped}
 use Rattle.session.specs.Step.{fresh-of}
 use Rattle.walk.specs.declared.Walked.{Walked}
 use Rattle.walk.specs.Walk.{Walking, in-numbers, walk-of}
-use Rattle.pace.specs.Pace.{taken-by}
+use Rattle.pace.specs.Pace.{last-taken}
 use Rattle.pace.proofs.anthegyra_pace_walk.Statement.{statement}
 use Rattle.pace.proofs.anthegyra_pace_walk.Tie as tie
 
-none-taken : (s : Session) (trace : List ℕ) (budget : ℕ) → 0 ≡ taken-by s trace budget 0
-unfolding taken-by
+none-taken : (s : Session) (trace : List ℕ) (budget : ℕ) → 0 ≡ last-taken s trace budget 0
+unfolding last-taken
 none-taken s trace budget = refl
 
-one-taken : (s : Session) (trace : List ℕ) (budget i : ℕ) (w : Walked) → in-numbers w ≡ walk-of s trace budget → w .taken ≡ taken-by s trace budget (i + 1)
-unfolding taken-by
-one-taken s trace budget i w e = ap (λ (x : Walking). x .taken) e ∙ ap (taken-by s trace budget) (sym (add-one i))
+one-taken : (s : Session) (trace : List ℕ) (budget i : ℕ) (w : Walked) → in-numbers w ≡ walk-of s trace budget → w .taken ≡ last-taken s trace budget (i + 1)
+unfolding last-taken
+one-taken s trace budget i w e = ap (λ (x : Walking). x .taken) e ∙ ap (last-taken s trace budget) (sym (add-one i))
 
 abbrev Inv-loop : tie.InvT-loop
-Inv-loop property trace budget times s taken₀ i₀ taken i = (i ≤ times) × (taken ≡ taken-by s trace budget i)
+Inv-loop property trace budget times s taken₀ i₀ taken i = (i ≤ times) × (taken ≡ last-taken s trace budget i)
 
 abbrev μ-loop : tie.MeasureT-loop
 μ-loop property trace budget times s taken₀ i₀ taken i = times - i
@@ -60,9 +60,9 @@ returns c =
     let read = c .before .before .before .before .before .read-property in
     let done : loop .i ≡ a .times = le-antisymm (loop .inv .0) (c .loop-test .left) in
     loop .inv .1
-    ∙ ap (taken-by (fresh .result .session) (now (a .trace)) (a .budget)) done
-    ∙ ap (λ (r : Stepped). taken-by (r .session) (now (a .trace)) (a .budget) (a .times)) (fresh .ensures)
-    ∙ ap (λ (r : PropertyRead). taken-by (fresh-of (r .property) .session) (now (a .trace)) (a .budget) (a .times)) (read .ensures)
+    ∙ ap (last-taken (fresh .result .session) (now (a .trace)) (a .budget)) done
+    ∙ ap (λ (r : Stepped). last-taken (r .session) (now (a .trace)) (a .budget) (a .times)) (fresh .ensures)
+    ∙ ap (λ (r : PropertyRead). last-taken (fresh-of (r .property) .session) (now (a .trace)) (a .budget) (a .times)) (read .ensures)
 
 pub anthegyra-pace-walk-spec : {M : Type 1} → statement M
 anthegyra-pace-walk-spec =

@@ -1,4 +1,4 @@
--- `property::above` meets its contract. The loop's invariant: no number passed is above 63. Assumes nothing.
+-- `property::above` meets its contract. The loop's invariant: no number passed is above 63.
 use Prim.Native.Nat.{ℕ, _-_, _≤_, _<_}
 use mathlib.Core.Path.{sym, _∙_}
 use mathlib.Core.Bool.{false}

@@ -1,4 +1,4 @@
--- `property::refused` meets its contract: at each `return` the tests that led there say which refusal is the first. Assumes nothing.
+-- `property::refused` meets its contract: at each `return` the tests that led there say which refusal is the first.
 use mathlib.Core.Path.{sym, _∙_}
 use native.Mathlib.Omega.{arith}
 use borrow.Author.Tests.{lt-ltb, le-ltb}
@@ -30,7 +30,15 @@ returns-4 c =
 returns-5 : tie.Need-returns-5
 returns-5 c =
     let p = c .before .before .before .before .before .before .before .before .before .before .args .p in
-    sym (refusal-is p ∙ simp (le-ltb (p .n) 1 (omega arith), le-ltb 32 (p .n) (omega arith), le-ltb (p .lb) 1 (omega arith), le-ltb (p .ub) (p .lb) (omega arith), lt-ltb 60_000_000 (p .ub) (omega arith)))
+    sym
+    (refusal-is p
+    ∙ simp (
+      le-ltb (p .n) 1 (omega arith),
+      le-ltb 32 (p .n) (omega arith),
+      le-ltb (p .lb) 1 (omega arith),
+      le-ltb (p .ub) (p .lb) (omega arith),
+      lt-ltb 60_000_000 (p .ub) (omega arith),
+    ))
 
 above-requires : tie.Need-above-requires
 above-requires c κs = search needs
@@ -38,12 +46,32 @@ above-requires c κs = search needs
 returns-6 : tie.Need-returns-6
 returns-6 c =
     let p = c .before .before .before .before .before .before .before .before .before .before .before .before .args .p in
-    sym (refusal-is p ∙ simp (le-ltb (p .n) 1 (omega arith), le-ltb 32 (p .n) (omega arith), le-ltb (p .lb) 1 (omega arith), le-ltb (p .ub) (p .lb) (omega arith), le-ltb 60_000_000 (p .ub) (omega arith), sym (c .before .above .ensures), c .if6 .taken))
+    sym
+    (refusal-is p
+    ∙ simp (
+      le-ltb (p .n) 1 (omega arith),
+      le-ltb 32 (p .n) (omega arith),
+      le-ltb (p .lb) 1 (omega arith),
+      le-ltb (p .ub) (p .lb) (omega arith),
+      le-ltb 60_000_000 (p .ub) (omega arith),
+      sym (c .before .above .ensures),
+      c .if6 .taken,
+    ))
 
 returns-7 : tie.Need-returns-7
 returns-7 c =
     let p = c .before .before .before .before .before .before .before .before .before .before .before .before .args .p in
-    sym (refusal-is p ∙ simp (le-ltb (p .n) 1 (omega arith), le-ltb 32 (p .n) (omega arith), le-ltb (p .lb) 1 (omega arith), le-ltb (p .ub) (p .lb) (omega arith), le-ltb 60_000_000 (p .ub) (omega arith), sym (c .before .above .ensures), c .if6 .left))
+    sym
+    (refusal-is p
+    ∙ simp (
+      le-ltb (p .n) 1 (omega arith),
+      le-ltb 32 (p .n) (omega arith),
+      le-ltb (p .lb) 1 (omega arith),
+      le-ltb (p .ub) (p .lb) (omega arith),
+      le-ltb 60_000_000 (p .ub) (omega arith),
+      sym (c .before .above .ensures),
+      c .if6 .left,
+    ))
 
 pub refused-spec : {M : Type 1} → statement M
 refused-spec =

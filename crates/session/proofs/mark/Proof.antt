@@ -3,7 +3,6 @@ use mathlib.Core.Path.{_≡_, sym, ap, subst, _∙_}
 use mathlib.Core.Bool.{false}
 use Rattle.meaning.specs.Calls.{Call}
 use Rattle.session.specs.declared.Session.{Session}
-use Rattle.session.specs.declared.Stepped.{Stepped}
 use Rattle.session.specs.Record.{out-of-range}
 use Rattle.session.specs.Lent.{in-arrays, tidied, Ready, Advanced}
 use Rattle.session.proofs.Steps.{named-refused}
@@ -27,12 +26,17 @@ given k = passed k .before .before .args .s
 abbrev call : tie.After-tidy → Call
 call k = let a = passed k .before .before .args in Call.mark (record { stamp = a .stamp })
 
+-- from the call on the arrays back to where they were tidied, and the record that it leads to
+abbrev start : tie.After-mark → tie.After-tidy
+start k = k .before .before .before .before .before
+
 abbrev led : tie.After-mark → Session
 led k =
-    in-arrays (given (k .before .before .before .before .before) .property) (k .mark .last .1 .0) (k .mark .last .1 .1 .0) (k .mark .last .1 .1 .1 .0) (k .mark .last .1 .1 .1 .1 .0) (k .mark .result .status)
+    let last = k .mark .last .1 in
+    in-arrays (given (start k) .property) (last .0) (last .1 .0) (last .1 .1 .0) (last .1 .1 .1 .0) (k .mark .result .status)
 
-advanced : (k : tie.After-mark) → Advanced (tidied (given (k .before .before .before .before .before))) (call (k .before .before .before .before .before)) (k .mark .result .answer) (led k)
-advanced k = subst (λ (x : Session). Advanced x (call (k .before .before .before .before .before)) (k .mark .result .answer) (led k)) (k .before .before .before .before .before .tidy .ensures) (k .mark .ensures)
+advanced : (k : tie.After-mark) → Advanced (tidied (given (start k))) (call (start k)) (k .mark .result .answer) (led k)
+advanced k = subst (λ (x : Session). Advanced x (call (start k)) (k .mark .result .answer) (led k)) (start k .tidy .ensures) (k .mark .ensures)
 
 unfit-requires : tie.Need-unfit-requires
 unfit-requires c κs = search needs
@@ -43,11 +47,14 @@ unmoved-requires c κs = search needs
 returns : tie.Need-returns
 returns c =
     let e = c .before in
-    c .unmoved .ensures ∙ sym (named-refused (e .before .before .args .s) (Call.mark (record { stamp = e .before .before .args .stamp })) (sym (e .before .unfit .ensures) ∙ e .if1 .taken))
+    let a = e .before .before .args in
+    c .unmoved .ensures ∙ sym (named-refused (a .s) (Call.mark (record { stamp = a .stamp })) (sym (e .before .unfit .ensures) ∙ e .if1 .taken))
 
 tidy-requires : tie.Need-tidy-requires
-tidy-requires c κs =
-    (record { held-long = search needs; acts-long = search needs; masks-long = search needs; marks-long = search needs }, fit (c .before .before .before .before .before .before .before .before .before .before .before .before))
+tidy-requires c κs = (
+  record { held-long = search needs; acts-long = search needs; masks-long = search needs; marks-long = search needs },
+  fit (c .before .before .before .before .before .before .before .before .before .before .before .before),
+)
 
 mark-requires : tie.Need-mark-requires
 mark-requires c κs =
@@ -60,7 +67,7 @@ unmoved-requires-2 c κs = search needs
 returns-2 : tie.Need-returns-2
 returns-2 c =
     let k = c .before .before .before .before in
-    let j = k .before .before .before .before .before in
+    let j = start k in
     c .unmoved2 .ensures ∙ by-value-refused (given j) (fit (passed j)) (call j) (k .mark .result .answer) (led k) (advanced k) (c .before .if2 .taken)
 
 made-requires : tie.Need-made-requires
@@ -69,7 +76,7 @@ made-requires c κs = search needs
 returns-3 : tie.Need-returns-3
 returns-3 c =
     let k = c .before .before .before .before in
-    let j = k .before .before .before .before .before in
+    let j = start k in
     ap (λ (x : Session). record { answer = k .mark .result .answer; session = x }) (c .made .ensures)
     ∙ by-value-taken (given j) (fit (passed j)) (call j) (k .mark .result .answer) (led k) (advanced k) (c .before .if2 .left)
 

@@ -19,16 +19,32 @@ returns : tie.Need-returns
 returns c = one-long (c .before .before .judge .result) (c .if1 .taken) ∙ ap one-number (c .before .before .judge .ensures)
 
 mul-result-2 : tie.Need-mul-result-2
-mul-result-2 c = let h = judged-small (now (c .before .before .before .before .before .before .args .property)) (now (c .before .before .before .before .before .before .args .trace)) (c .before .before .before .judge .result) (c .before .before .before .judge .ensures) in omega (arith, h .refusal-small)
+mul-result-2 c =
+    let j = c .before .before .before in
+    let a = j .before .before .before .args in
+    let h = judged-small (now (a .property)) (now (a .trace)) (j .judge .result) (j .judge .ensures) in
+    omega (arith, h .refusal-small)
 
 mul-result-3 : tie.Need-mul-result-3
-mul-result-3 c = let h = judged-small (now (c .before .before .before .before .before .before .before .args .property)) (now (c .before .before .before .before .before .before .before .args .trace)) (c .before .before .before .before .judge .result) (c .before .before .before .before .judge .ensures) in omega (arith, h .verdict-small)
+mul-result-3 c =
+    let j = c .before .before .before .before in
+    let a = j .before .before .before .args in
+    let h = judged-small (now (a .property)) (now (a .trace)) (j .judge .result) (j .judge .ensures) in
+    omega (arith, h .verdict-small)
 
 add-result : tie.Need-add-result
-add-result c = let h = judged-small (now (c .before .before .before .before .before .before .before .args .property)) (now (c .before .before .before .before .before .before .before .args .trace)) (c .before .before .before .before .judge .result) (c .before .before .before .before .judge .ensures) in omega (arith, h .refusal-small, h .verdict-small)
+add-result c =
+    let j = c .before .before .before .before in
+    let a = j .before .before .before .args in
+    let h = judged-small (now (a .property)) (now (a .trace)) (j .judge .result) (j .judge .ensures) in
+    omega (arith, h .refusal-small, h .verdict-small)
 
 add-result-2 : tie.Need-add-result-2
-add-result-2 c = let h = judged-small (now (c .before .before .before .before .before .before .before .args .property)) (now (c .before .before .before .before .before .before .before .args .trace)) (c .before .before .before .before .judge .result) (c .before .before .before .before .judge .ensures) in omega (arith, h .refusal-small, h .verdict-small, c .before .before .if1 .left)
+add-result-2 c =
+    let j = c .before .before .before .before in
+    let a = j .before .before .before .args in
+    let h = judged-small (now (a .property)) (now (a .trace)) (j .judge .result) (j .judge .ensures) in
+    omega (arith, h .refusal-small, h .verdict-small, c .before .before .if1 .left)
 
 returns-2 : tie.Need-returns-2
 returns-2 c = one-short (c .before .before .before .before .judge .result) (c .before .before .if1 .left) ∙ ap one-number (c .before .before .before .before .judge .ensures)

@@ -23,8 +23,10 @@ fresh-requires c κs = search needs
 records-requires : tie.Need-records-requires
 records-requires c κs =
     let b = c .before .before .before .before .before .before .before .before .before .before .before .before .before .before .before in
-    let made = c .before .before .before .before .before .before .before .before .before .before .before .before .fresh in
-    (fresh-ready (b .args .p) (b .pre) (made .result) (made .ensures), c .before .before .before .before .before .before .before .before .before .before .before .before .before .table .ensures)
+    let made = c .before .before .before .before .before .before .before .before .before .before .before .before .fresh in (
+      fresh-ready (b .args .p) (b .pre) (made .result) (made .ensures),
+      c .before .before .before .before .before .before .before .before .before .before .before .before .before .table .ensures,
+    )
 
 enum-told : tie.Need-enum-told
 enum-told c = search needs
@@ -40,8 +42,13 @@ refusal-requires-2 c κs = search needs
 
 returns : tie.Need-returns
 returns c =
+    let k = c .before .before .before .before .before in
+    let b = start k in
+    let fresh = made k .fresh in
     c .refusal2 .ensures
-    ∙ sym (judged-behind (start (c .before .before .before .before .before) .args .p) (start (c .before .before .before .before .before) .pre) (now (start (c .before .before .before .before .before) .args .trace)) (made (c .before .before .before .before .before) .fresh .result) (made (c .before .before .before .before .before) .fresh .ensures) _ (c .before .before .before .before .before .records .ensures .walked) (c .before .before .before .enum-told2 .given .1) (c .before .if1 .taken))
+    ∙ sym
+    (judged-behind (b .args .p) (b .pre) (now (b .args .trace)) (fresh .result) (fresh .ensures) _ (k .records .ensures .walked)
+    (c .before .before .before .enum-told2 .given .1) (c .before .if1 .taken))
 
 verdict-of-requires : tie.Need-verdict-of-requires
 verdict-of-requires c κs = c .before .before .before .before .before .before .before .before .records .ensures .ready
@@ -54,16 +61,33 @@ refusal-requires-3 c κs = search needs
 
 returns-2 : tie.Need-returns-2
 returns-2 c =
-    c .refusal .ensures ∙ sym (judged-budget (start (c .before .before .before) .args .p) (start (c .before .before .before) .pre) (now (start (c .before .before .before) .args .trace)) (made (c .before .before .before) .fresh .result) (made (c .before .before .before) .fresh .ensures) _ (c .before .before .before .records .ensures .walked) (c .before .enum-told .given .1))
+    let k = c .before .before .before in
+    let b = start k in
+    let fresh = made k .fresh in
+    c .refusal .ensures
+    ∙ sym
+    (judged-budget (b .args .p) (b .pre) (now (b .args .trace)) (fresh .result) (fresh .ensures) _ (k .records .ensures .walked)
+    (c .before .enum-told .given .1))
 
 returns-3 : tie.Need-returns-3
 returns-3 c =
-    ap (λ (v : ℕ). record { refusal = 0; verdict = v; count = c .before .before .before .before .before .before .before .before .before .records .result .taken }) (c .verdict-of .ensures)
-    ∙ sym (judged-ended (start (c .before .before .before .before .before .before .before .before .before) .args .p) (start (c .before .before .before .before .before .before .before .before .before) .pre) (now (start (c .before .before .before .before .before .before .before .before .before) .args .trace)) (made (c .before .before .before .before .before .before .before .before .before) .fresh .result) (made (c .before .before .before .before .before .before .before .before .before) .fresh .ensures) _ (c .before .before .before .before .before .before .before .before .before .records .ensures .walked) (c .before .before .before .before .before .before .before .enum-told2 .given .1) (c .before .before .before .before .before .if1 .left))
+    let k = c .before .before .before .before .before .before .before .before .before in
+    let b = start k in
+    let fresh = made k .fresh in
+    ap (λ (v : ℕ). record { refusal = 0; verdict = v; count = k .records .result .taken }) (c .verdict-of .ensures)
+    ∙ sym
+    (judged-ended (b .args .p) (b .pre) (now (b .args .trace)) (fresh .result) (fresh .ensures) _ (k .records .ensures .walked)
+    (c .before .before .before .before .before .before .before .enum-told2 .given .1) (c .before .before .before .before .before .if1 .left))
 
 returns-4 : tie.Need-returns-4
 returns-4 c =
-    c .refusal3 .ensures ∙ sym (judged-refused (start (c .before .before .before .before) .args .p) (start (c .before .before .before .before) .pre) (now (start (c .before .before .before .before) .args .trace)) (made (c .before .before .before .before) .fresh .result) (made (c .before .before .before .before) .fresh .ensures) _ (c .before .before .before .before .records .ensures .walked) _ (c .before .before .stop .given .1))
+    let k = c .before .before .before .before in
+    let b = start k in
+    let fresh = made k .fresh in
+    c .refusal3 .ensures
+    ∙ sym
+    (judged-refused (b .args .p) (b .pre) (now (b .args .trace)) (fresh .result) (fresh .ensures) _ (k .records .ensures .walked)
+    _ (c .before .before .stop .given .1))
 
 pub trace-verdict-spec : {M : Type 1} → statement M
 trace-verdict-spec =

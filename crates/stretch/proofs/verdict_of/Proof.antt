@@ -19,7 +19,7 @@ returns : tie.Need-returns
 returns c = standing-blind (entry (c .before)) (c .if1 .taken)
 
 verdict-requires : tie.Need-verdict-requires
-verdict-requires c κs = ready-ranged (entry (c .before)) (c .before .pre) .few
+verdict-requires c κs = omega (arith, ready-ranged (entry (c .before)) (c .before .pre) .few)
 
 cast-result : tie.Need-cast-result
 cast-result c = search needs

@@ -58,7 +58,8 @@ returns c =
     let last = c .before .line .last .1 .1 in
     subst (λ (t : Turn). Turned (entry b) (now (a .bytes)) (t .did) (in-arrays (a .p) (last .0) (last .1 .0) (last .1 .1 .0) (last .1 .1 .1 .0) (t .status)))
     (sym (c .after .ensures))
-    (call-turned (entry b) (now (a .bytes)) (read .result) (read .ensures) _ _ (c .before .before .before .before .before .before .before .«record» .given .1) refl refl _ _ (c .before .line .ensures))
+    (call-turned (entry b) (now (a .bytes)) (read .result) (read .ensures) _ _
+    (c .before .before .before .before .before .before .before .«record» .given .1) refl refl _ _ (c .before .line .ensures))
 
 returns-2 : tie.Need-returns-2
 returns-2 c =
@@ -68,7 +69,8 @@ returns-2 c =
     let last = c .before .line2 .last .1 .1 in
     subst (λ (t : Turn). Turned (entry b) (now (a .bytes)) (t .did) (in-arrays (a .p) (last .0) (last .1 .0) (last .1 .1 .0) (last .1 .1 .1 .0) (t .status)))
     (sym (c .after2 .ensures))
-    (call-turned (entry b) (now (a .bytes)) (read .result) (read .ensures) _ _ (c .before .before .before .before .before .before .before .record2 .given .1) refl refl _ _ (c .before .line2 .ensures))
+    (call-turned (entry b) (now (a .bytes)) (read .result) (read .ensures) _ _
+    (c .before .before .before .before .before .before .before .record2 .given .1) refl refl _ _ (c .before .line2 .ensures))
 
 returns-3 : tie.Need-returns-3
 returns-3 c =
@@ -78,7 +80,8 @@ returns-3 c =
     let last = c .before .mark .last .1 in
     subst (λ (t : Turn). Turned (entry b) (now (a .bytes)) (t .did) (in-arrays (a .p) (last .0) (last .1 .0) (last .1 .1 .0) (last .1 .1 .1 .0) (t .status)))
     (sym (c .after3 .ensures))
-    (call-turned (entry b) (now (a .bytes)) (read .result) (read .ensures) _ _ (c .before .before .before .before .before .before .before .record3 .given .1) refl refl _ _ (c .before .mark .ensures))
+    (call-turned (entry b) (now (a .bytes)) (read .result) (read .ensures) _ _
+    (c .before .before .before .before .before .before .before .record3 .given .1) refl refl _ _ (c .before .mark .ensures))
 
 returns-4 : tie.Need-returns-4
 returns-4 c =

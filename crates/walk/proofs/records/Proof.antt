@@ -15,6 +15,13 @@ abbrev μ-loop : tie.MeasureT-loop
 μ-loop p table held₀ acts₀ masks₀ marks₀ trace budget taken₀ at₀ here₀ held acts masks marks taken at here =
     budget - taken
 
+-- from a record read back to the turn of the loop, and to the entry
+abbrev turn : tie.After-one-record Inv-loop μ-loop → tie.In-loop Inv-loop μ-loop
+turn k = k .before .before .before .before .before .before
+
+abbrev entry : tie.After-one-record Inv-loop μ-loop → tie.Start Inv-loop μ-loop
+entry k = k .before .before .before .before .before .before .before .before .before
+
 loop-holds : tie.Need-loop-holds Inv-loop μ-loop
 loop-holds c = going-start _ _ _ (c .before .pre .0)
 
@@ -35,9 +42,10 @@ enum-told c = search needs
 
 add-at : tie.Need-add-at Inv-loop μ-loop
 add-at c =
-    let loop = c .before .before .before .before .before .before .before .before .before .before .loop in
-    let h = going-took (loop .inv) _ (c .before .before .before .before .before .before .before .before .before .loop-test .taken) (turned-part (c .before .before .before .before .before .before .before .before .before .before .before .before .args .trace .now) (loop .at) (c .enum-told .given .1) (c .before .before .before .one-record .ensures)) in
-    omega (arith, h .inside, c .before .before .before .before .before .before .before .before .before .before .before .before .good .1 .1 .1 .1 .1 .1 .1 .0)
+    let k = c .before .before .before in
+    let w = turn k .before .loop in
+    let h = going-took (w .inv) _ (turn k .loop-test .taken) (turned-part (entry k .args .trace .now) (w .at) (c .enum-told .given .1) (k .one-record .ensures)) in
+    omega (arith, h .inside, entry k .good .1 .1 .1 .1 .1 .1 .1 .0)
 
 add-taken : tie.Need-add-taken Inv-loop μ-loop
 add-taken c = omega arith
@@ -47,30 +55,34 @@ loop-less c = omega arith
 
 loop-again : tie.Need-loop-again Inv-loop μ-loop
 loop-again c =
-    let loop = c .before .before .before .before .before .before .before .before .before .before .loop in
-    going-took (loop .inv) _ (c .before .before .before .before .before .before .before .before .before .loop-test .taken) (turned-part (c .before .before .before .before .before .before .before .before .before .before .before .before .args .trace .now) (loop .at) (c .enum-told .given .1) (c .before .before .before .one-record .ensures))
+    let k = c .before .before .before in
+    let w = turn k .before .loop in
+    going-took (w .inv) _ (turn k .loop-test .taken) (turned-part (entry k .args .trace .now) (w .at) (c .enum-told .given .1) (k .one-record .ensures))
 
 enum-told-2 : tie.Need-enum-told-2 Inv-loop μ-loop
 enum-told-2 c = search needs
 
 add-t27 : tie.Need-add-t27 Inv-loop μ-loop
 add-t27 c =
-    let loop = c .before .before .before .before .before .before .before .before .before .before .loop in
-    let h = going-ended (loop .inv) _ (c .before .before .before .before .before .before .before .before .before .loop-test .taken) (turned-part (c .before .before .before .before .before .before .before .before .before .before .before .before .args .trace .now) (loop .at) (c .enum-told2 .given .1) (c .before .before .before .one-record .ensures)) in
-    omega (arith, h .within, c .before .before .before .before .before .before .before .before .before .before .before .before .good .1 .1 .1 .1 .1 .1 .1 .0)
+    let k = c .before .before .before in
+    let w = turn k .before .loop in
+    let h = going-ended (w .inv) _ (turn k .loop-test .taken) (turned-part (entry k .args .trace .now) (w .at) (c .enum-told2 .given .1) (k .one-record .ensures)) in
+    omega (arith, h .within, entry k .good .1 .1 .1 .1 .1 .1 .1 .0)
 
 returns : tie.Need-returns Inv-loop μ-loop
 returns c =
-    let loop = c .before .before .before .before .before .before .before .before .before .before .loop in
-    going-ended (loop .inv) _ (c .before .before .before .before .before .before .before .before .before .loop-test .taken) (turned-part (c .before .before .before .before .before .before .before .before .before .before .before .before .args .trace .now) (loop .at) (c .enum-told2 .given .1) (c .before .before .before .one-record .ensures))
+    let k = c .before .before .before in
+    let w = turn k .before .loop in
+    going-ended (w .inv) _ (turn k .loop-test .taken) (turned-part (entry k .args .trace .now) (w .at) (c .enum-told2 .given .1) (k .one-record .ensures))
 
 enum-known-did : tie.Need-enum-known-did Inv-loop μ-loop
 enum-known-did c = search needs
 
 returns-2 : tie.Need-returns-2 Inv-loop μ-loop
 returns-2 c =
-    let loop = c .before .before .before .before .before .before .before .before .before .before .before .loop in
-    going-refused (loop .inv) _ _ (c .before .before .before .before .before .before .before .before .before .before .loop-test .taken) (turned-part (c .before .before .before .before .before .before .before .before .before .before .before .before .before .args .trace .now) (loop .at) (c .before .did .given .1) (c .before .before .before .before .one-record .ensures))
+    let k = c .before .before .before .before in
+    let w = turn k .before .loop in
+    going-refused (w .inv) _ _ (turn k .loop-test .taken) (turned-part (entry k .args .trace .now) (w .at) (c .before .did .given .1) (k .one-record .ensures))
 
 returns-3 : tie.Need-returns-3 Inv-loop μ-loop
 returns-3 c = going-done (c .before .loop .inv) (c .loop-test .left)

@@ -33,20 +33,24 @@ trace j = passed j .before .before .before .args .trace .now
 abbrev budget : tie.After-tidy → ℕ
 budget j = passed j .before .before .before .args .budget
 
--- the walk on lent arrays, as its record
+-- the walk on lent arrays: back to where they were tidied, and as its record
+abbrev start : tie.After-records → tie.After-tidy
+start k = k .before .before .before .before .before .before .before
+
 abbrev lent : tie.After-records → Walked
 lent k =
     let r = k .records in
+    let last = r .last .1 .1 in
     record {
       taken = r .result .taken;
       stop = r .result .stop;
       read = r .result .read;
-      session = in-arrays (given (k .before .before .before .before .before .before .before) .property) (r .last .1 .1 .0) (r .last .1 .1 .1 .0) (r .last .1 .1 .1 .1 .0) (r .last .1 .1 .1 .1 .1 .0) (r .result .status);
+      session = in-arrays (given (start k) .property) (last .0) (last .1 .0) (last .1 .1 .0) (last .1 .1 .1 .0) (r .result .status);
     }
 
-walked : (k : tie.After-records) → walk-on (budget-of (budget (k .before .before .before .before .before .before .before))) (tidied (given (k .before .before .before .before .before .before .before))) (trace (k .before .before .before .before .before .before .before)) ≡ lent k
+walked : (k : tie.After-records) → walk-on (budget-of (budget (start k))) (tidied (given (start k))) (trace (start k)) ≡ lent k
 walked k =
-    let j = k .before .before .before .before .before .before .before in
+    let j = start k in
     ap (λ (b : ℕ). walk-on b (tidied (given j)) (trace j)) (sym (k .before .limited .ensures))
     ∙ ap (λ (x : Session). walk-on (k .before .limited .result) x (trace j)) (sym (j .tidy .ensures))
     ∙ k .records .ensures .walked
@@ -54,29 +58,38 @@ walked k =
 -- with no record taken the record comes back as it was; otherwise that of the arrays
 module _ (k : tie.After-records) where
   abbrev s : Session
-  s = given (k .before .before .before .before .before .before .before)
+  s = given (start k)
+
+  abbrev bytes : List ℕ
+  bytes = trace (start k)
+
+  abbrev most : ℕ
+  most = budget-of (budget (start k))
+
+  abbrev fits : out-of-range s ≡ false
+  fits = fit (passed (start k))
 
   abbrev on : Walked
-  on = walk-on (budget-of (budget (k .before .before .before .before .before .before .before))) s (trace (k .before .before .before .before .before .before .before))
+  on = walk-on most s bytes
 
   abbrev promised : Walking
-  promised = walk-of s (trace (k .before .before .before .before .before .before .before)) (budget (k .before .before .before .before .before .before .before))
+  promised = walk-of s bytes (budget (start k))
 
   is-on : in-numbers on ≡ promised
-  is-on = sym (walk-taken s (trace (k .before .before .before .before .before .before .before)) (budget (k .before .before .before .before .before .before .before)) (fit (passed (k .before .before .before .before .before .before .before))))
+  is-on = sym (walk-taken s bytes (budget (start k)) fits)
 
-  by-same : (w : Walked) → Same s (fit (passed (k .before .before .before .before .before .before .before))) on w → (w .taken ≡ 0 → in-numbers (record { taken = 0; stop = w .stop; read = w .read; session = s }) ≡ promised) × ((w .taken ≡ 0 → ⊥) → in-numbers w ≡ promised)
+  by-same : (w : Walked) → Same s fits on w
+      → (w .taken ≡ 0 → in-numbers (record { taken = 0; stop = w .stop; read = w .read; session = s }) ≡ promised)
+      × ((w .taken ≡ 0 → ⊥) → in-numbers w ≡ promised)
   by-same w (took q h) = ((λ z. absurd (h z)), (λ n. ap in-numbers (sym q) ∙ is-on))
   by-same w (none z q) = ((λ y. ap in-numbers (sym q) ∙ is-on), (λ n. absurd (n z)))
 
-  unchanged : k .records .result .taken ≡ 0 → walk-on (budget-of (budget (k .before .before .before .before .before .before .before))) (tidied s) (trace (k .before .before .before .before .before .before .before)) ≡ lent k
+  unchanged : k .records .result .taken ≡ 0 → walk-on most (tidied s) bytes ≡ lent k
       → in-numbers (record { taken = 0; stop = k .records .result .stop; read = k .records .result .read; session = s }) ≡ promised
-  unchanged z e =
-      by-same (lent k) (subst (Same s (fit (passed (k .before .before .before .before .before .before .before))) on) e (same-walk s (fit (passed (k .before .before .before .before .before .before .before))) (budget-of (budget (k .before .before .before .before .before .before .before))) (trace (k .before .before .before .before .before .before .before)))) .0 z
+  unchanged z e = by-same (lent k) (subst (Same s fits on) e (same-walk s fits most bytes)) .0 z
 
-  changed : (k .records .result .taken ≡ 0 → ⊥) → walk-on (budget-of (budget (k .before .before .before .before .before .before .before))) (tidied s) (trace (k .before .before .before .before .before .before .before)) ≡ lent k → in-numbers (lent k) ≡ promised
-  changed z e =
-      by-same (lent k) (subst (Same s (fit (passed (k .before .before .before .before .before .before .before))) on) e (same-walk s (fit (passed (k .before .before .before .before .before .before .before))) (budget-of (budget (k .before .before .before .before .before .before .before))) (trace (k .before .before .before .before .before .before .before)))) .1 z
+  changed : (k .records .result .taken ≡ 0 → ⊥) → walk-on most (tidied s) bytes ≡ lent k → in-numbers (lent k) ≡ promised
+  changed z e = by-same (lent k) (subst (Same s fits on) e (same-walk s fits most bytes)) .1 z
 
 unfit-requires : tie.Need-unfit-requires
 unfit-requires c κs = search needs
@@ -91,16 +104,20 @@ table-requires c κs =
     ranged (c .before .before .before .before .before .before .args .s) (fit (c .before .before .before)) .formed
 
 tidy-requires : tie.Need-tidy-requires
-tidy-requires c κs =
-    (record { held-long = search needs; acts-long = search needs; masks-long = search needs; marks-long = search needs }, fit (c .before .before .before .before .before .before .before .before .before .before .before .before .before))
+tidy-requires c κs = (
+  record { held-long = search needs; acts-long = search needs; masks-long = search needs; marks-long = search needs },
+  fit (c .before .before .before .before .before .before .before .before .before .before .before .before .before),
+)
 
 limited-requires : tie.Need-limited-requires
 limited-requires c κs = search needs
 
 records-requires : tie.Need-records-requires
 records-requires c κs =
-    let j = c .before .before .before .before .before .before in
-    (subst Ready (sym (j .tidy .ensures)) (tidied-ready (given j) (fit (passed j))), c .before .before .before .before .before .before .before .before .before .before .before .before .before .before .before .before .table .ensures)
+    let j = c .before .before .before .before .before .before in (
+      subst Ready (sym (j .tidy .ensures)) (tidied-ready (given j) (fit (passed j))),
+      c .before .before .before .before .before .before .before .before .before .before .before .before .before .before .before .before .table .ensures,
+    )
 
 returns-2 : tie.Need-returns-2
 returns-2 c =
@@ -113,7 +130,8 @@ made-requires c κs = search needs
 returns-3 : tie.Need-returns-3
 returns-3 c =
     let k = c .before .before .before in
-    ap (λ (x : Session). in-numbers (record { taken = k .records .result .taken; stop = k .records .result .stop; read = k .records .result .read; session = x })) (c .made .ensures)
+    let r = k .records .result in
+    ap (λ (x : Session). in-numbers (record { taken = r .taken; stop = r .stop; read = r .read; session = x })) (c .made .ensures)
     ∙ changed k (c .before .if2 .left) (walked k)
 
 pub walk-spec : {M : Type 1} → statement M

@@ -9,7 +9,7 @@ use Rattle.meaning.specs.Matcher.{Lengths, moved}
 use Rattle.laws.specs.Bits.{bit}
 use Rattle.property.specs.Meant.{action-of, meant}
 use Rattle.matcher.proofs.Formed.{formed-length}
-use Rattle.matcher.proofs.Rows.{row-le}
+use Rattle.matcher.proofs.TableRows.{row-le}
 use Rattle.matcher.proofs.Moves.{ones-pos, kept-le, entry-le, moved-inside, moved-outside}
 use Rattle.matcher.proofs.Words.{fits-parts, parts-fit, set-is, bit-with, with-lt}
 use borrow.Author.Needs.{needs}

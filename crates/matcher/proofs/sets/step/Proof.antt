@@ -11,7 +11,7 @@ use Rattle.laws.proofs.Bits.{bit-none, rest-less}
 use lib.ListN.{getD}
 use Rattle.laws.specs.Bits.{bit}
 use Rattle.matcher.specs.Sets.{stepped}
-use Rattle.matcher.proofs.Steps.{lowest-le, turn, turn-lt, stepped-done}
+use Rattle.matcher.proofs.SetStep.{lowest-le, turn, turn-lt, stepped-done}
 use Rattle.matcher.proofs.sets.step.Statement.{statement}
 use Rattle.matcher.proofs.sets.step.Tie as tie
 

@@ -25,6 +25,16 @@ entry b = in-arrays (b .args .p) (b .args .held .now) (b .args .acts .now) (b .a
 abbrev call : tie.Start → Call
 call b = Call.line (line-of (b .args .out) (b .args .act) (b .args .t))
 
+-- from where refusals 3, 4 and 5 are passed back to the entry, and to there from where the line begins a run or has room in one
+abbrev start : tie.Else1 → tie.Start
+start e = e .before .before
+
+abbrev from-first : tie.Else3 → tie.Else1
+from-first f = f .before .before .before .before
+
+abbrev from-next : tie.Else4 → tie.Else1
+from-next f = f .before .before .before .before .before
+
 one-at-most : (out : Bool) → 0 + cond out 0 1 ≤ 64
 one-at-most true = omega arith
 one-at-most false = omega arith
@@ -40,7 +50,8 @@ returns c =
     let b = c .before .before .before in
     let a = b .args in
     let number = c .before .before .line-refused in
-    refused-leads (entry b) (b .pre .0) (call b) (number .result) (line-refused (a .p) (cuts-of (entry b)) (a .out) (a .act) (a .t) (number .result) (number .ensures) (c .before .if1 .taken)) (c .before .if1 .taken)
+    refused-leads (entry b) (b .pre .0) (call b) (number .result)
+    (line-refused (a .p) (cuts-of (entry b)) (a .out) (a .act) (a .t) (number .result) (number .ensures) (c .before .if1 .taken)) (c .before .if1 .taken)
     (c .unmoved .result) (c .unmoved .ensures)
 
 mul-if3 : tie.Need-mul-if3
@@ -58,10 +69,11 @@ blinded-requires c κs = search needs
 
 returns-2 : tie.Need-returns-2
 returns-2 c =
-    let b = c .before .before .before .before .before .before .before in
+    let e = c .before .before .before .before .before in
+    let b = start e in
     let a = b .args in
-    let number = c .before .before .before .before .before .before .line-refused in
-    skipped-leads (entry b) (b .pre .0) (a .out) (a .act) (a .t) (number .result) (number .ensures) (c .before .before .before .before .before .if1 .left) (c .before .before .before .before .if2 .taken)
+    let number = e .before .line-refused in
+    skipped-leads (entry b) (b .pre .0) (a .out) (a .act) (a .t) (number .result) (number .ensures) (e .if1 .left) (c .before .before .before .before .if2 .taken)
     (omega (arith, c .before .if3 .taken)) (c .blinded .result) (c .blinded .ensures)
 
 begin-requires : tie.Need-begin-requires
@@ -69,33 +81,37 @@ begin-requires c κs = search needs
 
 run-on-requires : tie.Need-run-on-requires
 run-on-requires c κs =
-    let b = c .before .before .before .before .before .before .before .before .before .before .before .before .before in
+    let f = c .before .before .before .before .before .before .before in
+    let e = from-first f in
+    let b = start e in
     let a = b .args in
-    let number = c .before .before .before .before .before .before .before .before .before .before .before .before .line-refused in
-    let start = c .before .before .before .before .begin in
-    let holds = begun-usable (entry b) (b .pre .0) (a .out) (a .act) (a .t) (number .result) (number .ensures) (c .before .before .before .before .before .before .before .before .before .before .before .if1 .left) (c .before .before .before .before .before .before .before .before .before .before .if2 .taken)
-    (start .last .0) (start .last .1 .0) (start .ensures .0) (start .ensures .1) in (
+    let number = e .before .line-refused in
+    let first = c .before .before .before .before .begin in
+    let holds =
+    begun-usable (entry b) (b .pre .0) (a .out) (a .act) (a .t) (number .result) (number .ensures) (e .if1 .left) (f .before .before .before .if2 .taken)
+    (first .last .0) (first .last .1 .0) (first .ensures .0) (first .ensures .1) in (
       (holds .usable, b .pre .1),
       (
         record { within = omega arith; closed = λ i h. let z : ⊥ = omega arith in absurd z; next = λ h. let z : ⊥ = omega arith in absurd z },
-        line-limit (a .p) (cuts-of (entry b)) (a .out) (a .act) (a .t) (number .result) (number .ensures) (c .before .before .before .before .before .before .before .before .before .before .before .if1 .left),
+        line-limit (a .p) (cuts-of (entry b)) (a .out) (a .act) (a .t) (number .result) (number .ensures) (e .if1 .left),
         one-at-most (a .out),
       ),
     )
 
 returns-3 : tie.Need-returns-3
 returns-3 c =
-    let b = c .before .before .before .before .before .before .before .before .before .before .before .before .before .before in
+    let f = c .before .before .before .before .before .before .before .before in
+    let e = from-first f in
+    let b = start e in
     let a = b .args in
-    let number = c .before .before .before .before .before .before .before .before .before .before .before .before .before .line-refused in
-    let start = c .before .before .before .before .before .begin in
+    let number = e .before .line-refused in
+    let first = c .before .before .before .before .before .begin in
     let r = c .run-on in
-    let none = c .before .before .before .before .before .before .before .before .before .before .before .before .if1 .left in
-    let blind = c .before .before .before .before .before .before .before .before .before .before .before .if2 .taken in
-    begun-leads (entry b) (b .pre .0) (a .out) (a .act) (a .t) (number .result) (number .ensures) none blind (c .before .before .before .before .before .before .before .before .if3 .left)
-    (front-of (a .held .now) (a .acts .now) 0 (row (start .last .0) (start .last .1 .0)))
-    (begun-usable (entry b) (b .pre .0) (a .out) (a .act) (a .t) (number .result) (number .ensures) none blind
-    (start .last .0) (start .last .1 .0) (start .ensures .0) (start .ensures .1) .front)
+    let blind = f .before .before .before .if2 .taken in
+    begun-leads (entry b) (b .pre .0) (a .out) (a .act) (a .t) (number .result) (number .ensures) (e .if1 .left) blind (f .if3 .left)
+    (front-of (a .held .now) (a .acts .now) 0 (row (first .last .0) (first .last .1 .0)))
+    (begun-usable (entry b) (b .pre .0) (a .out) (a .act) (a .t) (number .result) (number .ensures) (e .if1 .left) blind
+    (first .last .0) (first .last .1 .0) (first .ensures .0) (first .ensures .1) .front)
     (r .last .1 .1 .0) (r .last .1 .1 .1 .0) (r .last .1 .1 .1 .1 .0) (r .last .1 .1 .1 .1 .1 .0) (r .result) (r .ensures)
 
 closed-count-requires : tie.Need-closed-count-requires
@@ -114,38 +130,43 @@ unmoved-requires-2 c κs = search needs
 
 returns-4 : tie.Need-returns-4
 returns-4 c =
-    let b = c .before .before .before .before .before .before .before .before in
+    let e = c .before .before .before .before .before .before in
+    let b = start e in
     let a = b .args in
-    let number = c .before .before .before .before .before .before .before .line-refused in
+    let number = e .before .line-refused in
     let closed = c .before .before .before .closed-count in
     refused-leads (entry b) (b .pre .0) (call b) 6
-    (crowded-is (entry b) (b .pre .0) (a .out) (a .act) (a .t) (number .result) (number .ensures) (c .before .before .before .before .before .before .if1 .left) (c .before .before .before .before .before .if2 .left) (closed .result) (closed .ensures)
+    (crowded-is (entry b) (b .pre .0) (a .out) (a .act) (a .t) (number .result) (number .ensures) (e .if1 .left) (c .before .before .before .before .before .if2 .left)
+    (closed .result) (closed .ensures)
     (subst (λ (n : ℕ). most-open < n) (c .before .before .open-after .ensures) (c .before .if4 .taken)))
     (λ z. omega arith) (c .unmoved2 .result) (c .unmoved2 .ensures)
 
 run-on-requires-2 : tie.Need-run-on-requires-2
 run-on-requires-2 c κs =
-    let b = c .before .before .before .before .before .before .before .before .before .before .before in
+    let f = c .before .before .before .before in
+    let e = from-next f in
+    let b = start e in
     let a = b .args in
-    let number = c .before .before .before .before .before .before .before .before .before .before .line-refused in
-    let closed = c .before .before .before .before .before .before .closed-count in (
-      (open-usable (entry b) (b .pre .0) (c .before .before .before .before .before .before .before .before .if2 .left), b .pre .1),
+    let number = e .before .line-refused in (
+      (open-usable (entry b) (b .pre .0) (f .before .before .before .before .if2 .left), b .pre .1),
       (
-        closed .ensures,
-        line-limit (a .p) (cuts-of (entry b)) (a .out) (a .act) (a .t) (number .result) (number .ensures) (c .before .before .before .before .before .before .before .before .before .if1 .left),
-        subst (λ (n : ℕ). n ≤ most-open) (c .before .before .before .before .before .open-after .ensures) (c .before .before .before .before .if4 .left),
+        f .before .before .closed-count .ensures,
+        line-limit (a .p) (cuts-of (entry b)) (a .out) (a .act) (a .t) (number .result) (number .ensures) (e .if1 .left),
+        subst (λ (n : ℕ). n ≤ most-open) (f .before .open-after .ensures) (f .if4 .left),
       ),
     )
 
 returns-5 : tie.Need-returns-5
 returns-5 c =
-    let b = c .before .before .before .before .before .before .before .before .before .before .before .before in
+    let f = c .before .before .before .before .before in
+    let e = from-next f in
+    let b = start e in
     let a = b .args in
-    let number = c .before .before .before .before .before .before .before .before .before .before .before .line-refused in
-    let closed = c .before .before .before .before .before .before .before .closed-count in
+    let number = e .before .line-refused in
+    let closed = f .before .before .closed-count in
     let r = c .run-on2 in
-    next-leads (entry b) (b .pre .0) (a .out) (a .act) (a .t) (number .result) (number .ensures) (c .before .before .before .before .before .before .before .before .before .before .if1 .left) (c .before .before .before .before .before .before .before .before .before .if2 .left) (closed .result) (closed .ensures)
-    (subst (λ (n : ℕ). n ≤ most-open) (c .before .before .before .before .before .before .open-after .ensures) (c .before .before .before .before .before .if4 .left))
+    next-leads (entry b) (b .pre .0) (a .out) (a .act) (a .t) (number .result) (number .ensures) (e .if1 .left) (f .before .before .before .before .if2 .left)
+    (closed .result) (closed .ensures) (subst (λ (n : ℕ). n ≤ most-open) (f .before .open-after .ensures) (f .if4 .left))
     (r .last .1 .1 .0) (r .last .1 .1 .1 .0) (r .last .1 .1 .1 .1 .0) (r .last .1 .1 .1 .1 .1 .0) (r .result) (r .ensures)
 
 pub line-spec : {M : Type 1} → statement M

@@ -1,6 +1,6 @@
 -- `session::lent::run_on` meets its contract: the answer is read off the front that the arrays hold after the line.
 use Prim.Native.Nat.{ℕ, _+_, _-_, _≤_, _<_}
-use mathlib.Core.Path.{_≡_, refl, sym, ap, subst, _∙_}
+use mathlib.Core.Path.{_≡_, refl, ap, subst, _∙_}
 use mathlib.Core.Bool.{Bool, false, cond}
 use native.Mathlib.Omega.{arith}
 use Rattle.meaning.specs.Node.{verdict-number}

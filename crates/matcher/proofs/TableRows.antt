@@ -13,7 +13,7 @@ use Rattle.meaning.specs.Matcher.{same, fall-back}
 use Rattle.property.specs.Meant.{action-of}
 use Rattle.laws.specs.Filled.{Filled}
 use Rattle.matcher.specs.Table.{action-at, row-of, row-entry, RowRight, Made}
-use Rattle.matcher.proofs.Matching.{fall-back-unnamed}
+use Rattle.matcher.proofs.Recursion.{fall-back-unnamed}
 
 pub row-le : (out : Bool) (act : ℕ) → row-of out act ≤ 4224
 row-le out act = go (leb act 63) (leb-true act 63) out
@@ -45,7 +45,8 @@ apart-numbers b c = go (leb b c) (leb-true b c) (leb-false b c) (leb c b) (leb-t
 pub rows-apart : (out : Bool) (act : ℕ) (out2 : Bool) (act2 : ℕ) → act2 ≤ 63 → Apart out act out2 act2
 unfolding Apart
 rows-apart out act out2 act2 h =
-    subst (λ (x : Bool). ((out ≡ out2) × (act ≡ act2)) ⊎ ((row-of out act + 33 ≤ cond x (cond out2 (2112 + act2 * 33) (act2 * 33)) 4224) ⊎ (cond x (cond out2 (2112 + act2 * 33) (act2 * 33)) 4224 + 33 ≤ row-of out act)))
+    let at = cond out2 (2112 + act2 * 33) (act2 * 33) in
+    subst (λ (x : Bool). ((out ≡ out2) × (act ≡ act2)) ⊎ ((row-of out act + 33 ≤ cond x at 4224) ⊎ (cond x at 4224 + 33 ≤ row-of out act)))
     (sym (le-leb act2 63 h))
     (go (leb act 63) (leb-true act 63) (leb-false act 63) out out2 (apart-numbers act act2))
   where
@@ -100,12 +101,19 @@ module _ (output : List Bool) (number : List ℕ) (n : ℕ) (few : n ≤ 32) whe
     kept out act k h (inl e) = f .below (row-of out act + k) (omega arith)
     kept out act k h (inr e) = f .above (row-of out act + k) (omega arith)
 
+    -- the row just made
+    right-there : (out : Bool) (act : ℕ) → out ≡ getD output i false → act ≡ getD number i 0 → RowRight (action-at output number) n out act u
+    right-there out act e f = λ k h.
+        ap₂ (λ (o : Bool) (a : ℕ). getD u (row-of o a + k) 0) e f
+        ∙ right-now k h
+        ∙ ap₂ (λ (o : Bool) (a : ℕ). fall-back (action-at output number) n k (action-of o a) k) (sym e) (sym f)
+
     still-right : (out : Bool) (act : ℕ) → RowRight (action-at output number) n out act t → RowRight (action-at output number) n out act u
     unfolding Apart
     still-right out act r = go (rows-apart out act (getD output i false) (getD number i 0) number-le)
       where
         go : Apart out act (getD output i false) (getD number i 0) → RowRight (action-at output number) n out act u
-        go (inl e) = λ k h. ap₂ (λ (o : Bool) (a : ℕ). getD u (row-of o a + k) 0) (e .0) (e .1) ∙ right-now k h ∙ ap₂ (λ (o : Bool) (a : ℕ). fall-back (action-at output number) n k (action-of o a) k) (sym (e .0)) (sym (e .1))
+        go (inl e) = right-there out act (e .0) (e .1)
         go (inr e) = λ k h. kept out act k h e ∙ r k h
 
     still-empty : (out : Bool) (act : ℕ) → RowEmpty n out act t → RowRight (action-at output number) n out act u ⊎ RowEmpty n out act u
@@ -113,7 +121,7 @@ module _ (output : List Bool) (number : List ℕ) (n : ℕ) (few : n ≤ 32) whe
     still-empty out act r = go (rows-apart out act (getD output i false) (getD number i 0) number-le)
       where
         go : Apart out act (getD output i false) (getD number i 0) → RowRight (action-at output number) n out act u ⊎ RowEmpty n out act u
-        go (inl e) = inl (λ k h. ap₂ (λ (o : Bool) (a : ℕ). getD u (row-of o a + k) 0) (e .0) (e .1) ∙ right-now k h ∙ ap₂ (λ (o : Bool) (a : ℕ). fall-back (action-at output number) n k (action-of o a) k) (sym (e .0)) (sym (e .1)))
+        go (inl e) = inl (right-there out act (e .0) (e .1))
         go (inr e) = inr (λ k h. kept out act k h e ∙ r k h)
 
     pub making-filled : Making output number n (i + 1) u
