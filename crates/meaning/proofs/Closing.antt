@@ -4,7 +4,7 @@ use mathlib.Core.Path.{_≡_, refl, sym, ap, subst}
 use mathlib.Core.Bool.{Bool, true, false, cond, not}
 use mathlib.Core.List.{List, [], _∷_, _++_, append-nil}
 use native.Mathlib.Omega.{arith}
-use lib.Dec.{T, leb, leb→le, nleb→lt}
+use lib.Dec.{T, leb→le, nleb→lt}
 use Rattle.meaning.specs.Words.{Property, Line, StampsFrom}
 use Rattle.meaning.specs.Calls.{is-open}
 use Rattle.meaning.specs.Step.{Sets, Held, Front, closed}

@@ -8,7 +8,7 @@ use mathlib.Core.List.{List, [], _∷_, _++_, append-nil, append-assoc}
 use native.Mathlib.Omega.{arith}
 use native.Mathlib.Nat.{le-refl, le-trans}
 use lib.ListN.{length}
-use lib.Dec.{T, leb, leb→le, nleb→lt}
+use lib.Dec.{T, leb→le, nleb→lt}
 use Rattle.meaning.specs.Words.{Action, Property, Line, Run, StampsFrom}
 use Rattle.meaning.specs.Node.{ins, outs, Explanation, Some, VerdictFor}
 use Rattle.meaning.specs.Calls.{is-open, count-open, open-at}
