@@ -29,10 +29,10 @@ use Rattle.property_form.proofs.Answers.{read-refused, taken-none, written-refu
 use Rattle.record_form.specs.Record.{Bytes, record-answer, read-refusal, fields-refusal, bytes-read, broken, stamp-above, write-refusal}
 use Rattle.record_form.specs.Record
 use Rattle.record_form.specs.Trace.{Entry, kind-of, entry-call, trace-form}
-use Rattle.cuts.specs.Steps.{line-of, fresh-by}
+use Rattle.cuts.specs.Steps.{line-of, fresh-by, refusal-by}
 use Rattle.fields.specs.Fields.{field}
 use Rattle.session.specs.declared.Session.{Session}
-use Rattle.session.specs.Record.{record-of, out-of-range}
+use Rattle.session.specs.Record.{record-of, cuts-of, out-of-range}
 use Rattle.session.specs.Step.{answer-of, refusal-of, fresh-of, stepped-of, no-session}
 use Rattle.session.proofs.Steps.{step-refused, answer-refusal, fresh-refused, fresh-taken}
 use Rattle.session.proofs.Running.{running-answer}
@@ -127,15 +127,15 @@ pub record Refuses (number order : ℕ) (Alone : ℕ → Type 0) : Type 0 where
 
 -- `line` and `mark`, on any record, also one that no calls made: 10, then those of the step; zeros, and the session as it was.
 pub demand-1 : (s : Session) (c : Call)
-    → Refuses (stepped-of s c .answer .refusal) (refusal-of s c) (λ n. stepped-of s c ≡ record { answer = answer-of (Calls.refused n); session = s })
-demand-1 s c =
-    record { first = answer-refusal s c; alone = λ n e. step-refused s c (suc n) (sym (answer-refusal s c) ∙ e) (λ z. omega arith) }
+    → Refuses (stepped-of s c .answer .refusal) (first-of (given 10 (out-of-range s)) (refusal-by (s .property) (cuts-of s) c))
+    (λ n. stepped-of s c ≡ record { answer = answer-of (Calls.refused n); session = s })
+unfolding refusal-of
+demand-1 s c = record { first = answer-refusal s c; alone = λ n e. step-refused s c (suc n) (sym (answer-refusal s c) ∙ e) (λ z. omega arith) }
 
 -- `fresh`: 1, 2, 3; zeros, and a session of zeros. Taken, verdict 0 and no input held.
 pub demand-1-fresh : (p : Data.Property)
     → Refuses (fresh-of p .answer .refusal) (property-refusal (meant p)) (λ n. fresh-of p ≡ record { answer = answer-of (Calls.refused n); session = no-session })
-demand-1-fresh p =
-    record { first = fresh-number p; alone = λ n e. fresh-refused p (suc n) (sym (fresh-number p) ∙ e) (λ z. omega arith) }
+demand-1-fresh p = record { first = fresh-number p; alone = λ n e. fresh-refused p (suc n) (sym (fresh-number p) ∙ e) (λ z. omega arith) }
 
 pub fresh-begins : (p : Data.Property) → property-refusal (meant p) ≡ 0
     → fresh-of p ≡ record { answer = record { refusal = 0; verdict = 0; open_count = 0 }; session = record-of p (fresh-by p) }
