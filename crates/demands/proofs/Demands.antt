@@ -44,7 +44,7 @@ use Rattle.stretch.proofs.Judging.{one-long}
 use Rattle.printout.specs.Text.{header-text, stop-text, text-of}
 use Rattle.printed.specs.Printed.{printed-of}
 use Rattle.printed.specs.Listing.{listing-of}
-use Rattle.printed.proofs.Whole.{listing-taken, listing-refused}
+pub use Rattle.printed.proofs.Whole.{listing-taken, listing-refused, counted as listing-count}
 use Rattle.demands.specs.Uses.{Use, session-through}
 use Rattle.demands.specs.Traces.{entry-of, first-met}
 use Rattle.demands.proofs.Running.{running, seen, running-number, running-range}

@@ -6,11 +6,10 @@ use lib.ListN.{length, take, drop}
 use Rattle.meaning.specs.Calls.{Call}
 use Rattle.record_form.specs.Record.{record-size}
 use Rattle.session.specs.declared.Session.{Session}
-use Rattle.session.specs.Step.{stepped-of}
 use Rattle.printout.specs.declared.Text.{Text}
 use Rattle.printout.specs.Text.{header-text}
 use Rattle.printed.specs.declared.Printed.{Printed}
-use Rattle.printed.specs.Printed.{one-after, call-text, printed-of, begun-of}
+use Rattle.printed.specs.Printed.{one-after, printed-of, begun-of}
 
 -- The bytes of a text.
 abbrev pub shown : Text → List ℕ
@@ -36,15 +35,7 @@ unfoldable pub listing-of : List ℕ → List ℕ → List ℕ
 listing-of property records =
     header-text ++ and-more (begun-of property) (records-text (begun-of property .session) (begun-of property .count) records)
 
--- ---- by the calls that the records stand for
-
 -- The count after these calls.
 unfoldable pub count-after : ℕ → List Call → ℕ
 count-after count [] = count
 count-after count (c ∷ rest) = count-after (one-after count) rest
-
--- The lines of calls that are taken one after the other: the number, the call, and what stands after it.
-unfoldable pub calls-text : ℕ → Session → List Call → List ℕ
-calls-text count s [] = []
-calls-text count s (c ∷ rest) =
-    call-text (one-after count) c (stepped-of s c .session) ++ calls-text (one-after count) (stepped-of s c .session) rest
