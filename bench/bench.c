@@ -1,15 +1,14 @@
 /*
- * Times the stretch judge and the walk by value, per record, at 3 and 61 open inputs and sequences of 1, 6 and 32 actions, and
- * for logs of different lengths. Not a test: nothing is asserted.
+ * Times the stretch judge (or, built with -DWALK, the walk by value) per record, at 3 and 61 open inputs and sequences of 1, 6
+ * and 32 actions, and for logs of different lengths. Not a test: nothing is asserted.
+ *
+ *   bench [RECORDS]       for each number at least that many records are judged
  */
 #define _POSIX_C_SOURCE 199309L
 #include "anthegyra.h"
 #include "common.h"
 
 #include <time.h>
-
-size_t anthegyra_pace_walk(const uint8_t *property, size_t property_len, const uint8_t *trace,
-                           size_t trace_len, size_t budget, size_t times);
 
 static double now(void)
 {
@@ -42,50 +41,54 @@ static size_t trace_of(uint8_t *bytes, size_t records, unsigned held, uint64_t u
     return RECORD * (records + 1);
 }
 
-static double judge_time(const uint8_t *p, size_t pn, const uint8_t *t, size_t tn, size_t records)
-{
-    size_t times = 2000000 / records + 1;
-    uint64_t sum = 0;
-    double start = now();
-    for (size_t i = 0; i < times; i++) sum += anthegyra_stretch_judge(p, pn, t, tn);
-    double took = now() - start;
-    if (sum == 42) puts("");
-    return took / times / records * 1e9;
-}
+/* The log is judged, or walked over, `times` times; the number taken each time. */
+#ifdef WALK
+static const char *const called = "walk by value, by records in one call";
+static const size_t logs[] = {1, 500, 4000};
 
-static double walk_time(const uint8_t *p, size_t pn, const uint8_t *t, size_t tn, size_t records)
-{
-    size_t times = 2000000 / records + 1;
-    double start = now();
-    size_t taken = anthegyra_pace_walk(p, pn, t, tn, records, times);
-    double took = now() - start;
-    if (taken != records) printf("(took %zu of %zu) ", taken, records);
-    return took / times / records * 1e9;
-}
+size_t anthegyra_pace_walk(const uint8_t *property, size_t property_len, const uint8_t *trace,
+                           size_t trace_len, size_t budget, size_t times);
 
-int main(void)
+static size_t taken(const uint8_t *p, size_t pn, const uint8_t *t, size_t tn, size_t records, size_t times)
+{
+    return anthegyra_pace_walk(p, pn, t, tn, records, times);
+}
+#else
+static const char *const called = "stretch judge, by records in the log";
+static const size_t logs[] = {500, 4000, 16000};
+
+static size_t taken(const uint8_t *p, size_t pn, const uint8_t *t, size_t tn, size_t records, size_t times)
+{
+    size_t count = records;
+    for (size_t i = 0; i < times; i++) {
+        size_t now_taken = anthegyra_count(anthegyra_stretch_judge(p, pn, t, tn));
+        if (now_taken != records) count = now_taken;
+    }
+    return count;
+}
+#endif
+
+int main(int argc, char **argv)
 {
     static const unsigned lengths[] = {1, 6, 32}, held[] = {3, 61};
-    static const size_t logs[] = {500, 4000, 16000};
+    size_t least = argc > 1 ? (size_t)strtoull(argv[1], NULL, 10) : 2000000;
     uint8_t property[PROPERTY_ROOM];
     uint8_t *trace = malloc(RECORD * 16001);
     if (!trace) return 1;
-    printf("nanoseconds a record        judge, by records in the log        walk, by value, one call\n");
-    printf("sequence  open inputs           500     4,000    16,000             1       500     4,000\n");
+    printf("%s, nanoseconds a record\n", called);
+    printf("sequence  open inputs %10lu%10lu%10lu\n", (unsigned long)logs[0], (unsigned long)logs[1], (unsigned long)logs[2]);
     for (int i = 0; i < 3; i++)
         for (int j = 0; j < 2; j++) {
             uint64_t ub = 6100;
             size_t pn = property_of(property, lengths[i], 10, ub);
-            printf("%8u  %11u    ", lengths[i], held[j]);
+            printf("%8u  %11u ", lengths[i], held[j]);
             for (int k = 0; k < 3; k++) {
-                size_t tn = trace_of(trace, logs[k], held[j], ub);
-                printf("%10.1f", judge_time(property, pn, trace, tn, logs[k]));
-            }
-            printf("    ");
-            size_t walks[] = {1, 500, 4000};
-            for (int k = 0; k < 3; k++) {
-                size_t tn = trace_of(trace, walks[k], held[j], ub);
-                printf("%10.1f", walk_time(property, pn, trace, tn, walks[k]));
+                size_t tn = trace_of(trace, logs[k], held[j], ub), times = least / logs[k] + 1;
+                double start = now();
+                size_t count = taken(property, pn, trace, tn, logs[k], times);
+                double took = now() - start;
+                if (count != logs[k]) printf("(took %lu of %lu) ", (unsigned long)count, (unsigned long)logs[k]);
+                printf("%10.1f", took / times / logs[k] * 1e9);
             }
             printf("\n");
         }

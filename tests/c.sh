@@ -3,11 +3,8 @@
 #
 #   tests/c.sh ARCHIVE FOLDER        as: tests/c.sh target/staticlib/libstretch.a target/c
 #
-# The archive is x86-64. On such a machine the system's C compiler builds, and the programs run as
-# they are. Elsewhere, or where C_BY_KIT is set, the kit's own compiler and linker build for x86-64 and
-# the programs run as rt runs its own: under the kit's loader and C library, and its emulator where
-# it has one. ORDERS and DAMAGED are the numbers of random inputs, 20000 each unless set, and SEED
-# their generator's first number. The header is shown to the C++ compiler in CXX, c++ unless set.
+# ORDERS and DAMAGED are the numbers of random inputs, 20000 each unless set, and SEED their generator's first number. The header
+# is shown to the C++ compiler in CXX, c++ unless set.
 set -u
 
 [ $# -eq 2 ] || { echo "usage: tests/c.sh ARCHIVE FOLDER" >&2; exit 2; }
@@ -22,45 +19,7 @@ status=0
 good() { printf 'c: %s\n' "$*"; }
 bad() { printf 'c: FAILED: %s\n' "$*"; status=1; }
 
-# ---- how this machine builds and runs an x86-64 program
-
-warnings='-O2 -Wall -Wextra -Werror'
-kit=''
-if [ "$(uname -m)" != x86_64 ] || [ -n "${C_BY_KIT:-}" ] || ! command -v cc >/dev/null; then
-    kit=$(rt doc) || { echo "c.sh: no C compiler for x86-64, and no rt to find the kit by" >&2; exit 2; }
-    kit=$(dirname "$(dirname "$kit")")
-    own=$kit/on/$(uname -m)
-    tools=$own/toolchain
-    emulator=$tools/bin/qemu-x86_64
-    [ -x "$emulator" ] || emulator=''
-    # as rt does: the emulator takes orders from the environment too
-    for word in $(env | sed -n 's/^\(QEMU_[A-Za-z0-9_]*\)=.*/\1/p'); do unset "$word"; done
-    mkdir -p "$build/headers" || exit 2
-    for header in stddef stdint stdio stdlib string; do
-        cp "$top/tests/libc.h" "$build/headers/$header.h" || exit 2
-    done
-fi
-
-compile() { # C-FILE PROGRAM
-    if [ -n "$kit" ]; then
-        # shellcheck disable=SC2086
-        "$tools/bin/clang" --target=x86_64-unknown-linux-gnu -std=c99 $warnings -fPIE -nostdinc \
-            -isystem "$build/headers" -I "$top/include" -I "$top/tests" -c "$1" -o "$2.o" &&
-            "$own/bin/rattle-link" --target x86_64-unknown-linux-gnu --toolchain "$tools" -o "$2" \
-                "$2.o" "$archive"
-    else
-        # shellcheck disable=SC2086
-        cc -std=c99 $warnings -I "$top/include" -I "$top/tests" "$1" "$archive" -o "$2"
-    fi >"$2.log" 2>&1 || { cat "$2.log"; return 1; }
-}
-
-run() { # PROGRAM WORDS...
-    if [ -n "$kit" ]; then
-        ${emulator:+"$emulator"} "$tools/lib/ld-linux-x86-64.so.2" --library-path "$tools/lib" "$@"
-    else
-        "$@"
-    fi
-}
+. "$top/tests/x86.sh"
 
 # ---- the packing script, and the samples that it packed
 
@@ -107,8 +66,7 @@ fi
 cxx=${CXX:-c++}
 if command -v "$cxx" >/dev/null; then
     printf '#include "anthegyra.h"\n' >"$build/header.cpp"
-    # shellcheck disable=SC2086
-    if "$cxx" -std=c++11 $warnings -pedantic -fsyntax-only -I "$top/include" "$build/header.cpp"; then
+    if "$cxx" -std=c++11 -O2 -Wall -Wextra -Werror -pedantic -fsyntax-only -I "$top/include" "$build/header.cpp"; then
         good "header: taken by C++"
     else
         bad "header: not taken by C++"
@@ -119,20 +77,20 @@ fi
 
 # ---- the programs
 
-if compile "$top/tests/edges.c" "$build/edges" && run "$build/edges" >"$build/edges.out" &&
+if compile "$archive" "$top/tests/edges.c" "$build/edges" -Werror && run "$build/edges" >"$build/edges.out" &&
     cmp "$build/edges.out" "$top/tests/edges.expected"; then
     good "edges: as expected"
 else
     bad edges
 fi
 
-if compile "$top/tests/orders.c" "$build/orders"; then
+if compile "$archive" "$top/tests/orders.c" "$build/orders" -Werror; then
     run "$build/orders" "${ORDERS:-20000}" "$seed" || bad orders
 else
     bad "orders: not built"
 fi
 
-if compile "$top/tests/damaged.c" "$build/damaged"; then
+if compile "$archive" "$top/tests/damaged.c" "$build/damaged" -Werror; then
     run "$build/damaged" "${DAMAGED:-20000}" "$seed" || bad damaged
 else
     bad "damaged: not built"
@@ -147,7 +105,7 @@ judge_samples() {
     done <"$top/tests/samples.expected"
 }
 
-if compile "$top/examples/judge.c" "$build/judge" && judge_samples >"$build/samples.out" &&
+if compile "$archive" "$top/examples/judge.c" "$build/judge" -Werror && judge_samples >"$build/samples.out" &&
     cmp "$build/samples.out" "$top/tests/samples.expected"; then
     good "judge: the samples are judged as expected"
 else

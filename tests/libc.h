@@ -1,6 +1,6 @@
 /*
  * The few declarations of x86-64 Linux's C library that the C programs here use. The kit's compiler
- * comes without headers, and the headers of an Arm machine describe another processor: c.sh puts
+ * comes without headers, and the headers of an Arm machine describe another processor: x86.sh puts
  * this file in the place of each standard header where it builds with the kit.
  */
 #ifndef LIBC_H
@@ -23,6 +23,15 @@ size_t fread(void *to, size_t size, size_t n, FILE *file);
 int ferror(FILE *file);
 int fclose(FILE *file);
 
+int puts(const char *line);
+
+struct timespec {
+    long tv_sec, tv_nsec;
+};
+#define CLOCK_MONOTONIC 1
+int clock_gettime(int clock, struct timespec *time);
+
+void *malloc(size_t size);
 void *realloc(void *old, size_t size);
 void free(void *old);
 void exit(int status) __attribute__((noreturn));
