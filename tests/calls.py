@@ -21,12 +21,10 @@ from rules import END_RECORD as END, LIMIT, pack_record as rec  # noqa: E402
 TOP = os.path.dirname(os.path.dirname(os.path.abspath(__file__)))
 HUGE = 2 ** 64 - 1
 
-# ---- the session record, as the script gives it and the console prints it. Each cut has a mask of matched lengths and beside it
-# a number whose bit 0 says that broken is among them. What that number is called and how many bytes it has in the script stands
-# here alone.
+# ---- the session record, as the script gives it and the console prints it. Each cut has a mask of matched lengths that are not
+# armed, and beside it a number with those that are, from bit 1 on; its bit 0 says that broken is among them.
 
 BESIDE = "marks"
-BESIDE_BYTES = 8
 
 # ---- records
 
@@ -67,14 +65,16 @@ def meant(p):
 
 def watch_of(s):
     """What a session record stands for."""
-    cuts = [({k for k in range(64) if mask >> k & 1}, bool(beside & 1)) for mask, beside in zip(s["masks"], s[BESIDE])]
+    cuts = [({(k, False) for k in range(64) if mask >> k & 1} | {(k, True) for k in range(63) if beside >> k + 1 & 1}, bool(beside & 1))
+            for mask, beside in zip(s["masks"], s[BESIDE])]
     return rules.Watch(bool(s["blind"]), s["latest"], list(zip(s["held"], s["acts"]))[:s["count"]], cuts[:s["count"] + 1])
 
 
 def record_of(p, w):
     """The session record of what it stands for."""
     return session(p, len(w.held), [at for at, _ in w.held], [act for _, act in w.held],
-                   [sum(1 << k for k in lengths) for lengths, _ in w.cuts], [int(broken) for _, broken in w.cuts],
+                   [sum(1 << k for k, armed in lengths if not armed) for lengths, _ in w.cuts],
+                   [int(broken) + sum(2 << k for k, armed in lengths if armed) for lengths, broken in w.cuts],
                    w.latest, int(w.blind))
 
 
@@ -123,8 +123,7 @@ def property_bytes(p):
 
 def session_bytes(s):
     return (property_bytes(s["property"]) + word(s["count"]) + b"".join(map(word, s["held"])) + bytes(s["acts"])
-            + b"".join(map(word, s["masks"])) + b"".join(v.to_bytes(BESIDE_BYTES, "big") for v in s[BESIDE])
-            + word(s["latest"]) + bytes([s["blind"]]))
+            + b"".join(map(word, s["masks"])) + b"".join(map(word, s[BESIDE])) + word(s["latest"]) + bytes([s["blind"]]))
 
 
 def add(name, args, check):
@@ -410,7 +409,7 @@ def properties():
 
 
 def cases():
-    title("document 01, cases 1 to 13")
+    title("document 01, cases 1 to 13, of which document 02 makes 8 and 9 certain")
     F(B)
     G(0, verdict=0)
     runs = [
@@ -421,8 +420,8 @@ def cases():
         ([("?0", 100, 0), ("!2", 100, 0)]),
         ([("!2", 100, 0), ("?0", 100, 0)]),
         ([("?0", 100, 0), ("!1", 161, 0)]),
-        ([("?0", 100, 0), ("?1", 101, 0), ("!2", 161, 1)]),
-        ([("?0", 100, 0), ("?1", 100, 0), ("!2", 161, 0)]),
+        ([("?0", 100, 0), ("?1", 101, 0), ("!2", 161, 2)]),
+        ([("?0", 100, 0), ("?1", 100, 0), ("!2", 161, 2)]),
         ([("?0", 100, 0), ("!1", 130, 0), ("!2", 161, 1)]),
         ([("?0", 100, 0), ("!2", 120, 1), ("!2", 161, 2)]),
     ]
@@ -436,6 +435,17 @@ def cases():
         W(len(run), trace(*[(act, stamp) for act, stamp, _ in run]) + END, len(run), BUDGET)
         remember("run %d" % i)
         J(packed(B), trace(*[(act, stamp) for act, stamp, _ in run]) + END, 0, run[-1][2], len(run))
+    title("document 02, CR 1: any number of inputs in between")
+    for sequence, run in ((["?0"], [("?0", 100, 0), ("?1", 101, 0), ("?2", 102, 0), ("?1", 103, 0), ("!2", 170, 2)]),
+                          (["?0"], [("?0", 100, 0), ("?0", 101, 0), ("!2", 170, 2)]),
+                          (["?0"], [("?0", 100, 0), ("?1", 101, 0), ("!1", 170, 0), ("!2", 240, 0)]),
+                          (["?0"], [("?0", 100, 0), ("?1", 101, 0), ("!1", 170, 0), ("?0", 171, 0), ("?1", 172, 0), ("!2", 240, 2)]),
+                          (["?0", "!1"], [("?0", 100, 0), ("!1", 170, 0), ("?5", 171, 0), ("!2", 240, 2)]),
+                          (["?0", "!1"], [("?0", 100, 0), ("?5", 101, 0), ("!1", 170, 0), ("!2", 240, 0)]),
+                          (["?0", "?1"], [("?0", 100, 0), ("?1", 101, 0), ("?0", 102, 0), ("!1", 170, 0), ("?1", 171, 0), ("!2", 240, 0)])):
+        F(prop(sequence))
+        for act, stamp, verdict in run:
+            L(act, stamp, 0, verdict)
     title("document 01, case 12")
     F(B)
     L("?0", 100, 0, 0, 1)
@@ -622,10 +632,13 @@ def records_of_no_calls():
         ("no matched length at all", session(two, **{**base, "masks": [0, 0, 0]})),
         ("all broken", session(two, **base, beside=[1] * 65)),
         ("held stamps closed at the latest", session(two, **{**base, "held": [0, 1]})),
+        ("armed at every length", session(two, **base, beside=[2, 4, 8])),
+        ("armed at every length and broken", session(two, **base, beside=[15, 15, 15])),
+        ("armed alone", session(two, **{**base, "masks": [0, 0, 0]}, beside=[8, 6, 14])),
+        ("length 32 armed", session(longest, masks=(), beside=[2 ** 34 - 1], latest=100)),
+        ("an armed length above in a cut not in use", session(two, **base, beside=[0, 1, 0, 16, HUGE])),
+        ("blind, an armed length above", session(two, masks=(), latest=100, blind=1, beside=[16, HUGE])),
     ]
-    if BESIDE_BYTES > 1:
-        fit += [("another bit beside a mask not in use", session(two, **base, beside=[0, 1, 0, 2, HUGE])),
-                ("blind, another bit beside a mask", session(two, masks=(), latest=100, blind=1, beside=[2, HUGE]))]
     for name, s in fit:
         title("a session record in range: " + name)
         T(s)
@@ -636,6 +649,11 @@ def records_of_no_calls():
         G(s["latest"])
         T(s)
         W(3, rec(0, 1, 1) + rec(1, 1, 0) + END, 2, AT_END)
+    title("an output outside the set behind a whole match: not armed, and armed")
+    T(session(two, masks=[4], latest=100))
+    L("!2", 101, 0, 0)
+    T(session(two, masks=(), beside=[8], latest=100))
+    L("!2", 101, 0, 2)
     title("a session record in range: 64 held stamps")
     T(full_house(100))
     L("?0", 100, 6)
@@ -665,11 +683,11 @@ def records_of_no_calls():
         ("a matched length above, after all", session(two, **{**base, "masks": [1, 1, 8]})),
         ("the highest bit of a mask", session(longest, masks=[2 ** 63], latest=100)),
         ("length 33 matched of 32", session(longest, masks=[2 ** 33], latest=100)),
+        ("an armed length above, before all", session(two, **base, beside=[16])),
+        ("an armed length above, after all", session(two, **base, beside=[1, 0, 17])),
+        ("the highest armed length", session(two, **base, beside=[0, 2 ** 63])),
+        ("length 33 armed of 32", session(longest, beside=[2 ** 34], latest=100)),
     ]
-    if BESIDE_BYTES > 1:
-        unfit += [("another bit beside the first mask", session(two, **base, beside=[2])),
-                  ("another bit beside the last mask in use", session(two, **base, beside=[1, 0, 3])),
-                  ("the highest bit beside a mask", session(two, **base, beside=[0, 2 ** 63]))]
     for name, s in unfit:
         title("refusal 10: " + name)
         T(s)

@@ -138,9 +138,12 @@ static unsigned trace_refusal(const struct slice *s, const struct property *p, s
 
 /* ---- the second reading: the verdict over the grid of cuts */
 
-/* A set of what orders leave behind: bit k for k matched actions, BROKEN for a breach. */
-typedef uint64_t set;
-static const set BROKEN = (set)1 << 63;
+/* A set of what orders leave behind: bit k of `waiting` for k matched actions where the sequence has occurred and only inputs
+   since, of `other` where not, and whether some have broken. */
+struct set {
+    uint64_t other, waiting;
+    int broken;
+};
 
 /* Matched lengths after one more action, found by trying each; kept, since long runs ask often. */
 static signed char matched_kept[LONGEST + 1][2][64];
@@ -166,15 +169,28 @@ static unsigned matched_after(const struct property *p, unsigned k, struct actio
     return (unsigned)*kept;
 }
 
-static set after(const struct property *p, set from, struct action a)
+static void put(const struct property *p, struct set *to, unsigned k, int waiting)
 {
-    set to = from & BROKEN;
+    if (waiting || k == p->length) to->waiting |= (uint64_t)1 << k;
+    else to->other |= (uint64_t)1 << k;
+}
+
+static struct set after(const struct property *p, struct set from, struct action a)
+{
+    struct set to = {0, 0, from.broken};
+    int outside = a.kind == OUTPUT && !(p->allowed >> a.number & 1);
     for (unsigned k = 0; k <= p->length; k++) {
-        if (!(from >> k & 1)) continue;
-        if (k == p->length && a.kind == OUTPUT && !(p->allowed >> a.number & 1)) to |= BROKEN;
-        else to |= (set)1 << matched_after(p, k, a);
+        if (from.other >> k & 1) put(p, &to, matched_after(p, k, a), 0);
+        if (!(from.waiting >> k & 1)) continue;
+        if (outside) to.broken = 1;
+        else put(p, &to, matched_after(p, k, a), a.kind == INPUT);
     }
     return to;
+}
+
+static struct set joined(struct set a, struct set b)
+{
+    return (struct set){a.other | b.other, a.waiting | b.waiting, a.broken | b.broken};
 }
 
 /* Row q holds, for each possible cut after i inputs and q outputs, what the orders that come through
@@ -182,11 +198,11 @@ static set after(const struct property *p, set from, struct action a)
    possible cut nothing is read again, and above the last one nothing has been written. */
 static unsigned verdict_of(const struct run *run, const struct property *p)
 {
-    static set row[MOST_LINES + 1];
+    static struct set row[MOST_LINES + 1];
     size_t first = 0;
     memset(row, 0, (run->ins + 1) * sizeof *row);
     memset(matched_kept, -1, sizeof matched_kept);
-    row[0] = 1;
+    row[0].other = 1;
     for (size_t q = 0; q <= run->outs; q++) {
         if (q > 0)
             while (first < run->ins && run->in[first].stamp + 2 * p->ub < run->out[q - 1].stamp)
@@ -194,11 +210,11 @@ static unsigned verdict_of(const struct run *run, const struct property *p)
         for (size_t i = first; i <= run->ins; i++) {
             if (i > 0 && q < run->outs && run->in[i - 1].stamp + 2 * p->lb > run->out[q].stamp) break;
             if (q > 0) row[i] = after(p, row[i], run->out[q - 1].action);
-            if (i > first) row[i] |= after(p, row[i - 1], run->in[i - 1].action);
+            if (i > first) row[i] = joined(row[i], after(p, row[i - 1], run->in[i - 1].action));
         }
     }
-    if (!(row[run->ins] & BROKEN)) return CLEAR;
-    return row[run->ins] == BROKEN ? CERTAIN : SUSPECT;
+    if (!row[run->ins].broken) return CLEAR;
+    return row[run->ins].other | row[run->ins].waiting ? SUSPECT : CERTAIN;
 }
 
 static struct answer second_reading(const struct slice *property, const struct slice *trace)

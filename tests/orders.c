@@ -3,8 +3,9 @@
  *
  *   orders [RUNS [SEED]]
  *
- * The listing follows document 01's definition of an explanation and nothing that was derived from
- * it: no cuts, no closing, no matched lengths. Each beginning of each log is judged by both sides.
+ * The listing follows document 01's definition of an explanation, document 02's of a breach (CR 1)
+ * and nothing that was derived from them: no cuts, no closing, no matched lengths. Each beginning of
+ * each log is judged by both sides.
  */
 #include "anthegyra.h"
 #include "common.h"
@@ -37,12 +38,14 @@ static int occurs_at(const struct property *p, const struct line *order, size_t 
     return 1;
 }
 
+/* The sequence, then inputs or none, then an output outside the set. */
 static int breaks(const struct property *p, const struct line *order, size_t size)
 {
     for (size_t at = 0; at + p->length < size; at++) {
-        struct action next = order[at + p->length].action;
-        if (next.kind == OUTPUT && !(p->allowed >> next.number & 1) && occurs_at(p, order, at))
-            return 1;
+        size_t next = at + p->length;
+        if (!occurs_at(p, order, at)) continue;
+        while (next < size && order[next].action.kind == INPUT) next++;
+        if (next < size && !(p->allowed >> order[next].action.number & 1)) return 1;
     }
     return 0;
 }

@@ -116,9 +116,22 @@ def outside(p, out, act):
     return bool(out) and not p.allowed >> act & 1
 
 
+def ends_of_sequence(p, acts):
+    """Where in these actions the sequence has just occurred."""
+    n = len(p.sequence)
+    return [i + n for i in range(len(acts) - n + 1) if acts[i:i + n] == p.sequence]
+
+
 def breaks(p, order):
-    acts, n = actions(order), len(p.sequence)
-    return any(acts[i:i + n] == p.sequence and outside(p, *acts[i + n]) for i in range(len(acts) - n))
+    """Somewhere the sequence, then inputs or none, then an output outside the set."""
+    acts = actions(order)
+    outputs = ([act for act in acts[end:] if act[0]] for end in ends_of_sequence(p, acts))
+    return any(later and outside(p, *later[0]) for later in outputs)
+
+
+def armed(p, acts):
+    """The sequence has occurred, and behind it only inputs."""
+    return any(not any(out for out, _ in acts[end:]) for end in ends_of_sequence(p, acts))
 
 
 def longest_beginning(p, acts):
@@ -151,17 +164,17 @@ def listed_cuts(p, run, count):
             if breaks(p, behind):
                 cuts[cut][1] = True
             else:
-                cuts[cut][0].add(longest_beginning(p, actions(behind)))
+                cuts[cut][0].add((longest_beginning(p, actions(behind)), armed(p, actions(behind))))
     return [tuple(cut) for cut in cuts]
 
 
 # ---- room, gaps and one step over cuts
 
 # `held` has a stamp and an action's number for each open input; `cuts`, one before each of them and one after all, the set of
-# matched lengths and whether broken is among them.
+# matched lengths, each with whether it is armed, and whether broken is among them.
 Watch = collections.namedtuple("Watch", "blind latest held cuts")
 
-FRESH = Watch(False, 0, [], [({0}, False)])
+FRESH = Watch(False, 0, [], [({(0, False)}, False)])
 
 
 def blind_at(stamp):
@@ -174,13 +187,14 @@ def standing(w):
 
 
 def moved(p, cut, out, act):
-    """A cut after one action more. Broken stays broken."""
+    """A cut after one action more. Broken stays broken; a whole match arms, an output disarms."""
     lengths, broken = set(), cut[1]
-    for k in cut[0]:
-        if k == len(p.sequence) and outside(p, out, act):
+    for k, is_armed in cut[0]:
+        if is_armed and outside(p, out, act):
             broken = True
         else:
-            lengths.add(longest_beginning(p, p.sequence[:k] + [(bool(out), act)]))
+            k = longest_beginning(p, p.sequence[:k] + [(bool(out), act)])
+            lengths.add((k, k == len(p.sequence) or is_armed and not out))
     return lengths, broken
 
 

@@ -5,3 +5,4 @@ pub mod Formed
 pub mod Moves
 pub mod Falling
 pub mod Words
+pub mod Moving

@@ -9,24 +9,18 @@ use lib.ListN.{length, getD}
 use lib.Dec.{eqb, ltb}
 use lib.Pow.{pow-pos, shl-exact, split}
 use lib.Bits.{bitAnd, and-mask, and-le-l}
-use borrow.Author.Tests.{eq-eqb, ne-eqb, eqb-true, eqb-false, lt-ltb, le-ltb}
-use Rattle.meaning.specs.Words.{Action}
-use Rattle.meaning.specs.Matcher.{Lengths, State, some-to, is-matched, is-broken, matched-next, outside, moved}
-use Rattle.meaning.specs.Numbers.{property-refusal}
+use borrow.Author.Tests.{eq-eqb, ne-eqb, eqb-true, eqb-false, ltb-false, le-ltb}
+use Rattle.meaning.specs.Words.{Action, Line}
+use Rattle.meaning.specs.Matcher.{Lengths, State, some-to, is-input, is-matched, is-broken, matched-on, matched-next, outside, moved}
 use Rattle.laws.specs.Bits.{bit}
 use Rattle.property.specs.Meant.{action-of, meant}
 use Rattle.property.specs.declared.Property.{Property}
-use Rattle.matcher.specs.Sets.{stepped}
+use Rattle.matcher.specs.Sets.{stepped, arranged}
 use Rattle.matcher.specs.Table.{action-at, row-of, IsTable}
-use Rattle.laws.proofs.Bits.{bit-low, bit-above}
+use Rattle.laws.proofs.Bits.{bit-low, bit-above, bit-none, bit-one}
 use Rattle.matcher.proofs.Recursion.{fall-back-le}
-use Rattle.meaning.proofs.Tests.{some-to-agree, some-to-none, some-to-last}
+use Rattle.meaning.proofs.Tests.{some-to-agree, some-to-none}
 use Rattle.laws.proofs.Places.{length-first}
-use Rattle.matcher.proofs.Formed.{formed-length}
-
--- The set that a mask of lengths and a test of broken stand for.
-abbrev pub set-by : ℕ → Bool → Lengths
-set-by m b = record { at = bit m; with-broken = b }
 
 -- The mask of all lengths below n.
 pub ones-below : (n : ℕ) → n ≤ 32 → (1 * 2 ^ n) % 2 ^ 64 ≡ 2 ^ n
@@ -38,23 +32,93 @@ ones-pos n few = subst (λ (x : ℕ). 1 ≤ x) (sym (ones-below n few)) (pow-pos
 pub kept-le : (m n : ℕ) → bitAnd m ((1 * 2 ^ n) % 2 ^ 64 - 1) ≤ m
 kept-le m n = and-le-l m ((1 * 2 ^ n) % 2 ^ 64 - 1)
 
-kept-is : (m n : ℕ) → n ≤ 32 → bitAnd m ((1 * 2 ^ n) % 2 ^ 64 - 1) ≡ m % 2 ^ n
+pub kept-is : (m n : ℕ) → n ≤ 32 → bitAnd m ((1 * 2 ^ n) % 2 ^ 64 - 1) ≡ m % 2 ^ n
 kept-is m n few = ap (λ (x : ℕ). bitAnd m (x - 1)) (ones-below n few) ∙ and-mask m n
 
-bit-kept : (m n k : ℕ) → n ≤ 32 → bit (bitAnd m ((1 * 2 ^ n) % 2 ^ 64 - 1)) k ≡ bit m k && ltb k n
-bit-kept m n k few = ap (λ (x : ℕ). bit x k) (kept-is m n few) ∙ bit-low n m k
+-- A mask of lengths up to n, without the whole match, and the whole match alone.
+module _ (n m : ℕ) (low : m < 2 ^ suc n) where
+  top-lt : m / 2 ^ n < 2
+  top-lt = div-lt-iff-lt-mul (pow-pos n) .1 (let e : 2 ^ suc n ≡ 2 ^ n * 2 = pow-suc 2 n in let h : m < 2 * 2 ^ n = omega arith in h)
 
--- Something is left out exactly if the whole sequence was matched.
-left-out : (m n : ℕ) → m < 2 ^ suc n → not (eqb (m % 2 ^ n) m) ≡ bit m n
-left-out m n low =
-    go (m / 2 ^ n) (div-lt-iff-lt-mul (pow-pos n) .1 (let e : 2 ^ suc n ≡ 2 ^ n * 2 = pow-suc 2 n in let h : m < 2 * 2 ^ n = omega arith in h)) (split m n)
+  pub below-whole : (j : ℕ) → bit (m % 2 ^ n) j ≡ bit m j && not (eqb j n)
+  below-whole j = bit-low n m j ∙ go (eqb j n) (eqb-true j n) (eqb-false j n) (ltb j n) refl
+    where
+      go : (b : Bool) → (b ≡ true → j ≡ n) → (b ≡ false → j ≡ n → ⊥) → (t : Bool) → ltb j n ≡ t → bit m j && t ≡ bit m j && not b
+      go true y z t e = let q : j ≡ n = y refl in ap (λ (x : Bool). bit m j && x) (sym e ∙ le-ltb j n (omega arith))
+      go false y z true e = refl
+      go false y z false e =
+          let q : j ≡ n → ⊥ = z refl in
+          let l : n ≤ j = ltb-false j n e in
+          and-false (bit m j) ∙ sym (ap (λ (x : Bool). x && true) (bit-above (suc n) m j low (omega arith)))
+
+  pub whole-alone : (j : ℕ) → bit (m - m % 2 ^ n) j ≡ bit m j && eqb j n
+  whole-alone j = go (m / 2 ^ n) refl top-lt (split m n) (eqb j n) (eqb-true j n) (eqb-false j n)
+    where
+      go : (q : ℕ) → m / 2 ^ n ≡ q → q < 2 → q * 2 ^ n + m % 2 ^ n ≡ m → (b : Bool) → (b ≡ true → j ≡ n) → (b ≡ false → j ≡ n → ⊥)
+          → bit (m - m % 2 ^ n) j ≡ bit m j && b
+      go zero d h e true y z =
+          let r : m - m % 2 ^ n ≡ 0 = omega arith in
+          let k : j ≡ n = y refl in
+          ap (λ (x : ℕ). bit x j) r ∙ bit-none j
+          ∙ sym (and-true (bit m j) ∙ ap (bit m) k ∙ ap (λ (x : ℕ). eqb (x % 2) 1) d)
+      go zero d h e false y z =
+          let r : m - m % 2 ^ n ≡ 0 = omega arith in
+          ap (λ (x : ℕ). bit x j) r ∙ bit-none j ∙ sym (and-false (bit m j))
+      go (suc zero) d h e true y z =
+          let r : m - m % 2 ^ n ≡ 2 ^ n = omega arith in
+          let k : j ≡ n = y refl in
+          ap (λ (x : ℕ). bit x j) r ∙ bit-one n j ∙ eq-eqb n j (sym k)
+          ∙ sym (and-true (bit m j) ∙ ap (bit m) k ∙ ap (λ (x : ℕ). eqb (x % 2) 1) d)
+      go (suc zero) d h e false y z =
+          let r : m - m % 2 ^ n ≡ 2 ^ n = omega arith in
+          let k : j ≡ n → ⊥ = z refl in
+          ap (λ (x : ℕ). bit x j) r ∙ bit-one n j ∙ ne-eqb n j (λ (w : n ≡ j). k (sym w)) ∙ sym (and-false (bit m j))
+      go (suc (suc q)) d h e b y z = let w : ⊥ = omega arith in absurd w
+
+-- ---- the meaning's step of a set, as sets of lengths
+
+-- Is the goal v of a length, armed or not, the length j, armed or not?
+goal : (armed c : Bool) (n v j : ℕ)
+    → is-matched armed j (State.matched (eqb v n || c) v) ≡ eqb v j && cond armed (eqb j n || c) (not (eqb j n || c))
+goal armed c n v j = go (eqb v j) (eqb-true v j)
   where
-    go : (q : ℕ) → q < 2 → q * 2 ^ n + m % 2 ^ n ≡ m → not (eqb (m % 2 ^ n) m) ≡ eqb (q % 2) 1
-    go zero h e = ap not (eq-eqb (m % 2 ^ n) m (omega arith))
-    go (suc zero) h e = ap not (ne-eqb (m % 2 ^ n) m (λ (w : m % 2 ^ n ≡ m). let z : 0 < 2 ^ n = pow-pos n in omega arith))
-    go (suc (suc q)) h e = let w : ⊥ = omega arith in absurd w
+    go : (b : Bool) → (b ≡ true → v ≡ j)
+        → cond armed (eqb v n || c) (not (eqb v n || c)) && b ≡ b && cond armed (eqb j n || c) (not (eqb j n || c))
+    go true y = and-true (cond armed (eqb v n || c) (not (eqb v n || c))) ∙ ap (λ (x : ℕ). cond armed (eqb x n || c) (not (eqb x n || c))) (y refl)
+    go false y = and-false (cond armed (eqb v n || c) (not (eqb v n || c)))
 
-module _ (p : Property) (formed : property-refusal (meant p) ≡ 0) (table : List ℕ) (is : IsTable p table) (out : Bool) (act at : ℕ)
+-- A test that is the same for all lengths, and two sets stepped together.
+stepped-and : (n : ℕ) (f : ℕ → ℕ) (s : ℕ → Bool) (j : ℕ) (d : Bool) → some-to n (λ k. s k && (eqb (f k) j && d)) ≡ stepped n f s j && d
+stepped-and n f s j true =
+    some-to-agree n (λ k. s k && (eqb (f k) j && true)) (λ k. s k && eqb (f k) j) (λ k h. ap (λ (x : Bool). s k && x) (and-true (eqb (f k) j)))
+    ∙ sym (and-true (stepped n f s j))
+stepped-and n f s j false =
+    some-to-none n (λ k. s k && (eqb (f k) j && false)) (λ k h. ap (λ (x : Bool). s k && x) (and-false (eqb (f k) j)) ∙ and-false (s k))
+    ∙ sym (and-false (stepped n f s j))
+
+some-to-or : (n : ℕ) (f g : ℕ → Bool) → some-to n (λ k. f k || g k) ≡ some-to n f || some-to n g
+unfolding some-to
+some-to-or zero f g = refl
+some-to-or (suc n) f g = ap (λ (x : Bool). (f (suc n) || g (suc n)) || x) (some-to-or n f g) ∙ four (f (suc n)) (g (suc n)) (some-to n f) (some-to n g)
+  where
+    four : (a b c d : Bool) → (a || b) || (c || d) ≡ (a || c) || (b || d)
+    four true b c d = refl
+    four false true true d = refl
+    four false true false d = refl
+    four false false c d = refl
+
+and-or : (a b c : Bool) → (a || b) && c ≡ (a && c) || (b && c)
+and-or true b true = refl
+and-or true true false = refl
+and-or true false false = refl
+and-or false b c = refl
+
+stepped-or : (n : ℕ) (f : ℕ → ℕ) (s t : ℕ → Bool) (j : ℕ) → stepped n f (λ k. s k || t k) j ≡ stepped n f s j || stepped n f t j
+stepped-or n f s t j =
+    some-to-agree n (λ k. (s k || t k) && eqb (f k) j) (λ k. (s k && eqb (f k) j) || (t k && eqb (f k) j)) (λ k h. and-or (s k) (t k) (eqb (f k) j))
+    ∙ some-to-or n (λ k. s k && eqb (f k) j) (λ k. t k && eqb (f k) j)
+
+module _ (p : Property) (table : List ℕ) (is : IsTable p table) (out : Bool) (act at : ℕ)
     (row : at ≡ row-of out act) where
   entry-is : (k : ℕ) → k ≤ p .n → getD table (at + k) 0 ≡ matched-next (meant p .sequence) k (action-of out act)
   entry-is k h = ap (λ (x : ℕ). getD table (x + k) 0) row ∙ is .looked-up out act k h
@@ -68,100 +132,135 @@ module _ (p : Property) (formed : property-refusal (meant p) ≡ 0) (table : Lis
       (subst (λ (x : ℕ). matched-next (meant p .sequence) k (action-of out act) ≤ x) long
       (fall-back-le (λ i. getD (meant p .sequence) i (Action.input 0)) (length (meant p .sequence)) k k (action-of out act)))
 
-  few : p .n ≤ 32
-  few = formed-length p formed .1
+  abbrev a : Action
+  a = action-of out act
 
-  matched-still : (x : Bool) (v j : ℕ) → x ≡ false → is-matched j (cond x State.broken (State.matched v)) ≡ eqb v j
-  matched-still x v j e = ap (λ (b : Bool). is-matched j (cond b State.broken (State.matched v))) e
+  abbrev f : ℕ → ℕ
+  f k = getD table (at + k) 0
 
-  matched-no-more : (x : Bool) (v j : ℕ) → x ≡ true → is-matched j (cond x State.broken (State.matched v)) ≡ false
-  matched-no-more x v j e = ap (λ (b : Bool). is-matched j (cond b State.broken (State.matched v))) e
+  abbrev next : ℕ → ℕ
+  next k = matched-next (meant p .sequence) k a
 
-  module _ (m : ℕ) (b : Bool) (t : ℕ) where
-    -- What breaks at length k.
-    breaks-at : ℕ → Bool
-    breaks-at k = eqb k (length (meant p .sequence)) && outside (meant p) (action-of out act)
+  -- the lengths of a set that an action leads to, from those that are armed or from the others
+  part : (ℕ → Bool) → Bool → Bool → ℕ → Bool
+  part s b armed j = some-to (length (meant p .sequence)) (λ k. s k && is-matched armed j (cond (b && outside (meant p) a) State.broken (matched-on (meant p) b a (next k))))
 
-    goes-to : ℕ → ℕ → Bool
-    goes-to j k = bit m k && is-matched j (cond (breaks-at k) State.broken (State.matched (matched-next (meant p .sequence) k (action-of out act))))
+  part-on : (s : ℕ → Bool) (b c armed : Bool) (j : ℕ) → b && outside (meant p) a ≡ false → b && is-input a ≡ c
+      → part s b armed j ≡ stepped (p .n) f s j && cond armed (eqb j (p .n) || c) (not (eqb j (p .n) || c))
+  unfolding part
+  part-on s b c armed j o i =
+      ap (λ (n : ℕ). some-to n (λ k. s k && is-matched armed j (cond (b && outside (meant p) a) State.broken (State.matched (eqb (next k) n || (b && is-input a)) (next k))))) long
+      ∙ some-to-agree (p .n)
+      (λ k. s k && is-matched armed j (cond (b && outside (meant p) a) State.broken (State.matched (eqb (next k) (p .n) || (b && is-input a)) (next k))))
+      (λ k. s k && (eqb (f k) j && cond armed (eqb j (p .n) || c) (not (eqb j (p .n) || c))))
+      (λ k h.
+      ap (λ (x : Bool). s k && x)
+      (ap₂ (λ (x y : Bool). is-matched armed j (cond x State.broken (State.matched (eqb (next k) (p .n) || y) (next k)))) o i
+      ∙ goal armed c (p .n) (next k) j
+      ∙ ap (λ (v : ℕ). eqb v j && cond armed (eqb j (p .n) || c) (not (eqb j (p .n) || c))) (sym (entry-is k h))))
+      ∙ stepped-and (p .n) f s j (cond armed (eqb j (p .n) || c) (not (eqb j (p .n) || c)))
 
-    to-broken : ℕ → Bool
-    to-broken k = bit m k && is-broken (cond (breaks-at k) State.broken (State.matched (matched-next (meant p .sequence) k (action-of out act))))
+  part-broken : (s : ℕ → Bool) (armed : Bool) (j : ℕ) → outside (meant p) a ≡ true → part s true armed j ≡ false
+  unfolding part
+  part-broken s armed j o =
+      some-to-none (length (meant p .sequence)) _
+      (λ k h. ap (λ (x : Bool). s k && is-matched armed j (cond x State.broken (matched-on (meant p) true a (next k)))) o ∙ and-false (s k))
 
-    same-set : (r : ℕ) (c : Bool) → ((j : ℕ) → bit r j ≡ some-to (p .n) (goes-to j)) → c ≡ b || some-to (p .n) to-broken
-        → set-by r c ≡ moved (meant p) (set-by m b) (record { action = action-of out act; stamp = t })
-    unfolding goes-to to-broken breaks-at
-    same-set r c e d =
-        ap₂ (λ (f : ℕ → Bool) (x : Bool). record { at = f; with-broken = x })
-        (fun-ext (λ j. e j ∙ ap (λ (n : ℕ). some-to n (goes-to j)) (sym long)))
-        (d ∙ ap (λ (n : ℕ). b || some-to n to-broken) (sym long))
+  -- those that break
+  lost : (ℕ → Bool) → Bool → Bool
+  lost s b = some-to (length (meant p .sequence)) (λ k. s k && is-broken (cond (b && outside (meant p) a) State.broken (matched-on (meant p) b a (next k))))
 
-    -- An input, or an allowed output.
-    pub moved-inside : outside (meant p) (action-of out act) ≡ false → (r : ℕ)
-        → ((j : ℕ) → bit r j ≡ stepped (p .n) (λ k. getD table (at + k) 0) (bit m) j)
-        → set-by r b ≡ moved (meant p) (set-by m b) (record { action = action-of out act; stamp = t })
-    unfolding goes-to to-broken breaks-at
-    moved-inside o r e =
-        same-set r b
-        (λ j.
-        e j
-        ∙ some-to-agree (p .n) (λ k. bit m k && eqb (getD table (at + k) 0) j) (goes-to j)
-        (λ k h. ap (λ (x : Bool). bit m k && x) (ap (λ (v : ℕ). eqb v j) (entry-is k h) ∙ sym (matched-still (breaks-at k) (matched-next (meant p .sequence) k (action-of out act)) j (never k)))))
-        (sym (or-false b)
-        ∙ ap (λ (x : Bool). b || x)
-        (sym (some-to-none (p .n) to-broken
-        (λ k h.
-        ap (λ (x : Bool). bit m k && is-broken (cond x State.broken (State.matched (matched-next (meant p .sequence) k (action-of out act))))) (never k)
-        ∙ and-false (bit m k)))))
+  lost-none : (s : ℕ → Bool) (b : Bool) → b && outside (meant p) a ≡ false → lost s b ≡ false
+  unfolding lost
+  lost-none s b o =
+      some-to-none (length (meant p .sequence)) _
+      (λ k h. ap (λ (x : Bool). s k && is-broken (cond x State.broken (matched-on (meant p) b a (next k)))) o ∙ and-false (s k))
+
+  lost-all : (s : ℕ → Bool) → outside (meant p) a ≡ true → lost s true ≡ some-to (p .n) s
+  unfolding lost
+  lost-all s o =
+      some-to-agree (length (meant p .sequence)) _ s
+      (λ k h. ap (λ (x : Bool). s k && is-broken (cond x State.broken (matched-on (meant p) true a (next k)))) o ∙ and-true (s k))
+      ∙ ap (λ (n : ℕ). some-to n s) long
+
+  module _ (s : Lengths) (t : ℕ) where
+    abbrev l : Line
+    l = record { action = a; stamp = t }
+
+    -- a set with these lengths and this test of broken is the one moved to
+    same-set : (free still : ℕ → Bool) (broken : Bool)
+        → ((armed : Bool) (j : ℕ) → arranged (p .n) free still broken .at armed j ≡ part (s .at false) false armed j || part (s .at true) true armed j)
+        → broken ≡ s .with-broken || (lost (s .at false) false || lost (s .at true) true)
+        → arranged (p .n) free still broken ≡ moved (meant p) s l
+    unfolding part lost
+    same-set free still broken e d =
+        ap₂ (λ (g : Bool → ℕ → Bool) (x : Bool). record { at = g; with-broken = x }) (fun-ext (λ armed. fun-ext (e armed))) d
+
+    or-none : (x y z : Bool) → y ≡ false → z ≡ false → x ≡ x || (y || z)
+    or-none x y z h k = sym (or-false x) ∙ ap₂ (λ (u v : Bool). x || (u || v)) (sym h) (sym k)
+
+    -- An input.
+    pub moved-input : is-input a ≡ true → outside (meant p) a ≡ false
+        → arranged (p .n) (stepped (p .n) f (s .at false)) (stepped (p .n) f (s .at true)) (s .with-broken) ≡ moved (meant p) s l
+    moved-input i o =
+        same-set (stepped (p .n) f (s .at false)) (stepped (p .n) f (s .at true)) (s .with-broken) same
+        (or-none (s .with-broken) (lost (s .at false) false) (lost (s .at true) true) (lost-none (s .at false) false refl) (lost-none (s .at true) true o))
       where
-        never : (k : ℕ) → breaks-at k ≡ false
-        never k = ap (λ (x : Bool). eqb k (length (meant p .sequence)) && x) o ∙ and-false (eqb k (length (meant p .sequence)))
+        whole : (x y : Bool) → x && (y || true) ≡ x
+        whole x true = and-true x
+        whole x false = and-true x
+
+        none : (x y : Bool) → x && not (y || true) ≡ false
+        none x true = and-false x
+        none x false = and-false x
+
+        same : (armed : Bool) (j : ℕ) → arranged (p .n) (stepped (p .n) f (s .at false)) (stepped (p .n) f (s .at true)) (s .with-broken) .at armed j
+            ≡ part (s .at false) false armed j || part (s .at true) true armed j
+        same true j =
+            ap₂ (λ (x y : Bool). x || y)
+            (ap (λ (x : Bool). stepped (p .n) f (s .at false) j && x) (sym (or-false (eqb j (p .n)))) ∙ sym (part-on (s .at false) false false true j refl refl))
+            (sym (part-on (s .at true) true true true j o i ∙ whole (stepped (p .n) f (s .at true) j) (eqb j (p .n))))
+        same false j =
+            sym (or-false (stepped (p .n) f (s .at false) j && not (eqb j (p .n))))
+            ∙ ap₂ (λ (x y : Bool). x || y)
+            (ap (λ (x : Bool). stepped (p .n) f (s .at false) j && not x) (sym (or-false (eqb j (p .n)))) ∙ sym (part-on (s .at false) false false false j refl refl))
+            (sym (part-on (s .at true) true true false j o i ∙ none (stepped (p .n) f (s .at true) j) (eqb j (p .n))))
+
+    -- An output: nothing stays armed but whole matches.
+    flag : Bool → ℕ → Bool
+    flag armed j = cond armed (eqb j (p .n) || false) (not (eqb j (p .n) || false))
+
+    by-flag : (free : ℕ → Bool) (broken armed : Bool) (j : ℕ) → arranged (p .n) free (λ k. false) broken .at armed j ≡ free j && flag armed j
+    unfolding flag
+    by-flag free broken true j = or-false (free j && eqb j (p .n)) ∙ ap (λ (x : Bool). free j && x) (sym (or-false (eqb j (p .n))))
+    by-flag free broken false j = ap (λ (x : Bool). free j && not x) (sym (or-false (eqb j (p .n))))
+
+    -- An output that is allowed.
+    pub moved-allowed : is-input a ≡ false → outside (meant p) a ≡ false
+        → arranged (p .n) (stepped (p .n) f (λ k. s .at false k || s .at true k)) (λ k. false) (s .with-broken) ≡ moved (meant p) s l
+    unfolding flag
+    moved-allowed i o =
+        same-set (stepped (p .n) f (λ k. s .at false k || s .at true k)) (λ k. false) (s .with-broken)
+        (λ armed j.
+        by-flag (stepped (p .n) f (λ k. s .at false k || s .at true k)) (s .with-broken) armed j
+        ∙ ap (λ (x : Bool). x && flag armed j) (stepped-or (p .n) f (s .at false) (s .at true) j)
+        ∙ and-or (stepped (p .n) f (s .at false) j) (stepped (p .n) f (s .at true) j) (flag armed j)
+        ∙ ap₂ (λ (x y : Bool). x || y)
+        (sym (part-on (s .at false) false false armed j refl refl))
+        (sym (part-on (s .at true) true false armed j o i)))
+        (or-none (s .with-broken) (lost (s .at false) false) (lost (s .at true) true) (lost-none (s .at false) false refl) (lost-none (s .at true) true o))
 
     -- An output outside the allowed set.
-    pub moved-outside : outside (meant p) (action-of out act) ≡ true → m < 2 ^ suc (p .n) → (r : ℕ) (c : Bool)
-        → ((j : ℕ) → bit r j ≡ stepped (p .n) (λ k. getD table (at + k) 0) (bit (bitAnd m ((1 * 2 ^ p .n) % 2 ^ 64 - 1))) j)
-        → c ≡ b || not (eqb (bitAnd m ((1 * 2 ^ p .n) % 2 ^ 64 - 1)) m)
-        → set-by r c ≡ moved (meant p) (set-by m b) (record { action = action-of out act; stamp = t })
-    unfolding goes-to to-broken breaks-at
-    moved-outside o low r c e d =
-        same-set r c
-        (λ j. e j ∙ some-to-agree (p .n) (λ k. bit (bitAnd m ((1 * 2 ^ p .n) % 2 ^ 64 - 1)) k && eqb (getD table (at + k) 0) j) (goes-to j)
-        (λ k h. ap (λ (x : Bool). x && eqb (getD table (at + k) 0) j) (bit-kept m (p .n) k few) ∙ step j k h (eqb k (p .n)) (eqb-true k (p .n)) (eqb-false k (p .n))))
-        (d
-        ∙ ap (λ (x : Bool). b || x)
-        (ap (λ (x : ℕ). not (eqb x m)) (kept-is m (p .n) few)
-        ∙ left-out m (p .n) low
-        ∙ sym (and-true (bit m (p .n)))
-        ∙ ap (λ (x : Bool). bit m (p .n) && is-broken (cond x State.broken (State.matched (matched-next (meant p .sequence) (p .n) (action-of out act))))) (sym at-last)
-        ∙ sym (some-to-last (p .n) to-broken
-        (λ k h.
-        ap (λ (x : Bool). bit m k && is-broken (cond x State.broken (State.matched (matched-next (meant p .sequence) k (action-of out act))))) (before k h)
-        ∙ and-false (bit m k)))))
-      where
-        at-last : breaks-at (p .n) ≡ true
-        at-last = ap₂ (λ (x y : Bool). x && y) (eq-eqb (p .n) (length (meant p .sequence)) (sym long)) o
-
-        before : (k : ℕ) → k < p .n → breaks-at k ≡ false
-        before k h =
-            ap (λ (x : Bool). x && outside (meant p) (action-of out act))
-            (ne-eqb k (length (meant p .sequence)) (λ (w : k ≡ length (meant p .sequence)). let l : length (meant p .sequence) ≡ p .n = long in omega arith))
-
-        step : (j k : ℕ) → k ≤ p .n → (x : Bool) → (x ≡ true → k ≡ p .n) → (x ≡ false → k ≡ p .n → ⊥)
-            → (bit m k && ltb k (p .n)) && eqb (getD table (at + k) 0) j ≡ goes-to j k
-        step j k h true y n =
-            let q : k ≡ p .n = y refl in
-            ap (λ (x : Bool). (bit m k && x) && eqb (getD table (at + k) 0) j) (le-ltb k (p .n) (omega arith))
-            ∙ ap (λ (x : Bool). x && eqb (getD table (at + k) 0) j) (and-false (bit m k))
-            ∙ sym (and-false (bit m k))
-            ∙ ap (λ (x : Bool). bit m k && x)
-            (sym (matched-no-more (breaks-at k) (matched-next (meant p .sequence) k (action-of out act)) j (ap breaks-at q ∙ at-last)))
-        step j k h false y n =
-            let q : k ≡ p .n → ⊥ = n refl in
-            ap (λ (x : Bool). (bit m k && x) && eqb (getD table (at + k) 0) j) (lt-ltb k (p .n) (omega arith))
-            ∙ ap (λ (x : Bool). x && eqb (getD table (at + k) 0) j) (and-true (bit m k))
-            ∙ ap (λ (x : Bool). bit m k && x)
-            (ap (λ (v : ℕ). eqb v j) (entry-is k h)
-            ∙ sym (matched-still (breaks-at k) (matched-next (meant p .sequence) k (action-of out act)) j (before k (omega arith))))
+    pub moved-outside : outside (meant p) a ≡ true
+        → arranged (p .n) (stepped (p .n) f (s .at false)) (λ k. false) (s .with-broken || some-to (p .n) (s .at true)) ≡ moved (meant p) s l
+    unfolding flag
+    moved-outside o =
+        same-set (stepped (p .n) f (s .at false)) (λ k. false) (s .with-broken || some-to (p .n) (s .at true))
+        (λ armed j.
+        by-flag (stepped (p .n) f (s .at false)) (s .with-broken || some-to (p .n) (s .at true)) armed j
+        ∙ sym (or-false (stepped (p .n) f (s .at false) j && flag armed j))
+        ∙ ap₂ (λ (x y : Bool). x || y) (sym (part-on (s .at false) false false armed j refl refl)) (sym (part-broken (s .at true) armed j o)))
+        (ap₂ (λ (x y : Bool). s .with-broken || (x || y)) (sym (lost-none (s .at false) false refl)) (sym (lost-all (s .at true) o)))
 
 -- "an output outside the allowed set", told from the mask of allowed outputs.
 module _ (p : Property) (allowed act : ℕ) (out : Bool) (q : p .allowed ≡ allowed) where

@@ -3,6 +3,7 @@ ghost use Prim.Native.Nat.{ℕ, suc, _+_, _^_, _≤_, _<_};
 ghost use mathlib.Core.Path.{_≡_};
 ghost use mathlib.Core.Bool.{cond};
 ghost use lib.ListN.{getD};
+ghost use lib.Bits.{bitOr};
 ghost use Rattle.meaning.specs.Matcher;
 ghost use Rattle.meaning.specs.Numbers.{property-refusal};
 ghost use Rattle.meaning.specs.Node.{verdict-number};
@@ -11,11 +12,11 @@ ghost use Rattle.property.specs.declared.Property.{Property};
 ghost use Rattle.property.specs.Meant.{action-of, meant};
 ghost use Rattle.matcher.specs.Table.{IsTable};
 ghost use Rattle.matcher.specs.Sets;
-ghost use Rattle.matcher.specs.Sets.{set-of, cut-of, Fits, set-verdict, stepped, Moved, Joined};
+ghost use Rattle.matcher.specs.Sets.{set-of, cut-of, Fits, set-verdict, stepped, Arranged, Moved, Joined};
 use limits::LAST_ACTION;
 use property::Property;
 
-// The matched lengths as a mask, and marks beside them: bit 0 is broken, no other bit is in use.
+// The matched lengths that are not armed as a mask, and marks beside them: bit 0 is broken, bit k + 1 is length k, armed.
 pub struct Cut {
     pub mask: u64,
     pub marks: u64,
@@ -37,7 +38,7 @@ pub fn none() -> Cut
     Cut { mask: 0, marks: 0 }
 }
 
-// The words are those of no set for a sequence of n actions: a matched length above n, or a mark that is none.
+// The words are those of no set for a sequence of n actions: a matched length above n in one of them.
 pub fn stray(n: usize, cut: Cut) -> bool
     requires { ⌜ n ≤ 32 ⌝ }
     ensures { λ r. ⌜ r ≡ Sets.stray n cut ⌝ }
@@ -45,20 +46,23 @@ pub fn stray(n: usize, cut: Cut) -> bool
     if 0 < cut.mask >> (n + 1) {
         return true;
     }
-    BROKEN < cut.marks
+    0 < cut.marks >> (n + 2)
 }
 
 // The verdict's number, where the set is that of every explanation.
 pub fn verdict(cut: Cut) -> u8
     ensures { λ r. ⌜ ((p : Property) → Fits p cut → r ≡ verdict-number (set-verdict p (set-of cut))) ⌝ }
 {
-    if cut.marks == 0 {
+    if cut.marks % 2 == 0 {
         return 0;
     }
-    if cut.mask == 0 {
-        return 2;
+    if 0 < cut.mask {
+        return 1;
     }
-    1
+    if 0 < cut.marks / 2 {
+        return 1;
+    }
+    2
 }
 
 // The set of lengths that a set goes to by a row of the table.
@@ -90,34 +94,57 @@ fn outside(allowed: u64, out: bool, act: u8) -> bool
     false
 }
 
-// The marks, with broken among them if it is so.
-fn with_broken(marks: u64, broken: bool) -> u64
-    ensures { λ r. ⌜ r ≡ cond broken 1 marks ⌝ }
+// Broken, if it was or is now.
+fn with_broken(before: u64, broken: bool) -> u64
+    ensures { λ r. ⌜ r ≡ cond broken 1 before ⌝ }
 {
     if broken {
         return BROKEN;
     }
-    marks
+    before
 }
 
-// The states that those of a cut move to at an action: the whole sequence matched and the action outside the set is broken.
+// Lengths of two masks together.
+fn both(a: u64, b: u64) -> u64
+    ensures { λ r. ⌜ (r ≡ bitOr a b) × ((w : ℕ) → a < 2 ^ w → b < 2 ^ w → r < 2 ^ w) ⌝ }
+{
+    a | b
+}
+
+// The words of the lengths that are not armed or are so no more, those that stay armed, and broken: a whole match is armed too.
+fn arranged(n: usize, free: u64, still: u64, broken: u64) -> Cut
+    requires { ⌜ (n ≤ 32) × (free < 2 ^ suc n) × (still < 2 ^ suc n) × (broken < 2) ⌝ }
+    ensures { λ r. ⌜ Arranged n free still broken r ⌝ }
+{
+    let low = free & ((1u64 << n) - 1);
+    let up = both(free - low, still);
+    Cut {
+        mask: low,
+        marks: up * 2 + broken,
+    }
+}
+
+// The states that those of a cut move to at an action: an output outside the set breaks those that are armed, an allowed one
+// disarms them, an input keeps them armed.
 pub fn moved(p: Property, table: &[u8; 4257], cut: Cut, out: bool, act: u8) -> Cut
     requires { ⌜ (property-refusal (meant p) ≡ 0) × IsTable p (now table) × Fits p cut ⌝ }
     ensures { λ r. ⌜ Moved p cut (action-of out act) r ⌝ }
 {
     let n = p.n;
     let at = crate::row(out, act);
-    if outside(p.allowed, out, act) {
-        let kept = cut.mask & ((1u64 << n) - 1);
-        return Cut {
-            mask: step(table, at, n, kept),
-            marks: with_broken(cut.marks, kept != cut.mask),
-        };
+    let armed = cut.marks / 2;
+    let broken = cut.marks % 2;
+    if out {
+        if outside(p.allowed, out, act) {
+            let free = step(table, at, n, cut.mask);
+            return arranged(n, free, 0, with_broken(broken, 0 < armed));
+        }
+        let free = step(table, at, n, both(cut.mask, armed));
+        return arranged(n, free, 0, broken);
     }
-    Cut {
-        mask: step(table, at, n, cut.mask),
-        marks: cut.marks,
-    }
+    let free = step(table, at, n, cut.mask);
+    let still = step(table, at, n, armed);
+    arranged(n, free, still, broken)
 }
 
 // Two sets joined.

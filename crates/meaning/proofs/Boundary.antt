@@ -2,7 +2,7 @@
 use Prim.Native.Nat.{ℕ, _≤_}
 use mathlib.Core.Path.{_≡_, sym, _∙_, ap, subst}
 use mathlib.Core.Logic.{_⊎_, inl, inr}
-use mathlib.Core.List.{List, [], _∷_, _++_, append-assoc, append-eq-nil-iff, head-eq-of-cons-eq, nil≢cons}
+use mathlib.Core.List.{List, [], _∷_, _++_, map, append-assoc, append-eq-nil-iff, head-eq-of-cons-eq, nil≢cons}
 use native.Mathlib.Omega.{arith}
 use lib.ListN.{length, length-append}
 use Rattle.meaning.specs.Words.{Action, Property, Line, StampsFrom}
@@ -15,11 +15,41 @@ use Rattle.meaning.proofs.Facts.{explanation-exists}
 use Rattle.meaning.proofs.Splitting.{Apart, Split, split, join}
 
 -- where no action stands there is no breach
-no-breach : {p : Property} → Breach p [] → ⊥
-no-breach {p} h = nil≢cons (sym (append-eq-nil-iff {p = p .sequence} {q = Action.output (h .answer) ∷ h .after} .0 (sym (h .occurs)) .1))
+no-breach : {p : Property} {between : List ℕ} → Breach p between [] → ⊥
+no-breach {p} {between} h =
+    let last : List Action = Action.output (h .answer) ∷ h .after in
+    let rest : map Action.input between ++ last ≡ [] =
+    append-eq-nil-iff {p = p .sequence} {q = map Action.input between ++ last} .0 (sym (h .occurs)) .1 in
+    nil≢cons (sym (append-eq-nil-iff {p = map Action.input between} {q = last} .0 rest .1))
 
 -- a breach that begins in the run is one of the run's part alone
 module _ {p : Property} {earlier e : List Line} (f : List Line) (he : Explanation p earlier e) where
+  later-ins : (m : List Line) → length (ins earlier) ≤ length (ins (e ++ m))
+  later-ins m = omega (arith, ap length (he .is-order .inputs-kept), ap length (ins-append e m), length-append (ins e) (ins m))
+
+  later-outs : (m : List Line) → length (outs earlier) ≤ length (outs (e ++ m))
+  later-outs m = omega (arith, ap length (he .is-order .outputs-kept), ap length (outs-append e m), length-append (outs e) (outs m))
+
+  logged : (m : List Line) (a : Action) → LoggedAfter earlier (e ++ m) a
+  logged m (Action.input k) = later-ins m
+  logged m (Action.output k) = later-outs m
+
+  breach-back : Breaks p f → BreaksAfter p earlier (e ++ f)
+  breach-back h = make (h .behind) (h .stands) (h .breach)
+    where
+      make : (behind : List Line) → f ≡ h .before ++ behind → Breach p (h .between) (actions behind) → BreaksAfter p earlier (e ++ f)
+      make [] s q = absurd (no-breach q)
+      make (x ∷ behind) s q =
+          record {
+            before = e ++ h .before;
+            first = x;
+            behind = behind;
+            stands = ap (λ (z : List Line). e ++ z) s ∙ sym (append-assoc e (h .before) (x ∷ behind));
+            begins = logged (h .before) (x .action);
+            between = h .between;
+            breach = q;
+          }
+
   -- what stands behind `before` and was logged later stands behind all of e
   not-inside : (before : List Line) (a : Action) (t : ℕ) (m : List Line) → e ≡ before ++ record { action = a; stamp = t } ∷ m
       → LoggedAfter earlier before a → ⊥
@@ -39,37 +69,12 @@ module _ {p : Property} {earlier e : List Line} (f : List Line) (he : Explanatio
     where
       go : ((m : List Line) × (h .before ≡ e ++ m) × (f ≡ m ++ h .first ∷ h .behind))
           ⊎ ((y : Line) × (m : List Line) × (e ≡ h .before ++ y ∷ m) × (h .first ∷ h .behind ≡ y ∷ (m ++ f))) → Breaks p f
-      go (inl r) = record { before = r .0; behind = h .first ∷ h .behind; stands = r .2; breach = h .breach }
+      go (inl r) = record { before = r .0; behind = h .first ∷ h .behind; stands = r .2; between = h .between; breach = h .breach }
       go (inr r) =
           absurd
           (not-inside (h .before) (h .first .action) (h .first .stamp) (r .1)
           (r .2 ∙ ap (λ (z : Line). h .before ++ z ∷ r .1) (sym (head-eq-of-cons-eq (r .3))))
           (h .begins))
-
-  later-ins : (m : List Line) → length (ins earlier) ≤ length (ins (e ++ m))
-  later-ins m = omega (arith, ap length (he .is-order .inputs-kept), ap length (ins-append e m), length-append (ins e) (ins m))
-
-  later-outs : (m : List Line) → length (outs earlier) ≤ length (outs (e ++ m))
-  later-outs m = omega (arith, ap length (he .is-order .outputs-kept), ap length (outs-append e m), length-append (outs e) (outs m))
-
-  logged : (m : List Line) (a : Action) → LoggedAfter earlier (e ++ m) a
-  logged m (Action.input k) = later-ins m
-  logged m (Action.output k) = later-outs m
-
-  breach-back : Breaks p f → BreaksAfter p earlier (e ++ f)
-  breach-back h = make (h .behind) (h .stands) (h .breach)
-    where
-      make : (behind : List Line) → f ≡ h .before ++ behind → Breach p (actions behind) → BreaksAfter p earlier (e ++ f)
-      make [] s q = absurd (no-breach q)
-      make (x ∷ behind) s q =
-          record {
-            before = e ++ h .before;
-            first = x;
-            behind = behind;
-            stands = ap (λ (z : List Line). e ++ z) s ∙ sym (append-assoc e (h .before) (x ∷ behind));
-            begins = logged (h .before) (x .action);
-            breach = q;
-          }
 
 module _ {p : Property} (b : Bounds p) {T₀ : ℕ} {earlier run : List Line} (apart : Apart p T₀ earlier run)
     (rising : StampsFrom 0 (earlier ++ run)) where

@@ -1,18 +1,21 @@
 -- A set of matched lengths, with or without broken, stands for states of the matcher: the reading in use.
 use Prim.Native.Nat.{ℕ, zero, suc, _≤_, _<_}
-use mathlib.Core.Path.{_≡_, refl, sym, ap, subst}
+use mathlib.Core.Path.{_≡_, refl, sym, ap, ap₂, subst}
 use mathlib.Core.Logic.{_↔_, _⊎_, inl, inr}
-use mathlib.Core.Bool.{Bool, true, false, cond, _&&_, true≢false}
+use mathlib.Core.Bool.{Bool, true, false, cond, not, _&&_, true≢false}
 use native.Mathlib.Omega.{arith}
 use lib.ListN.{length}
 use lib.Dec.{eqb, ltb}
-use borrow.Author.Tests.{ltb-true, eqb-true, eq-eqb}
+use borrow.Author.Tests.{ltb-true, ltb-false, eqb-true, eq-eqb}
 use Rattle.meaning.specs.Words.{Action, Property, Line}
-use Rattle.meaning.specs.Matcher.{same, place, ends, goes-on, fall-back, matched-next, State, outside, state-next}
-use Rattle.meaning.specs.Matcher.{is-broken, is-matched, Lengths, at-start, none-of, either, moved, some-to, some-length}
+use Rattle.meaning.specs.Matcher.{same, place, ends, goes-on, fall-back, matched-next, State, outside, matched-on, state-next}
+use Rattle.meaning.specs.Matcher.{is-broken, is-matched, Lengths, at-start, none-of, either, moved, some-to, some-matched, some-length}
 use Rattle.meaning.specs.Step.{lengths}
 use Rattle.meaning.specs.Node.{Breaks}
-use Rattle.meaning.specs.Numbers.{property-refusal}
+use Rattle.meaning.specs.Limits.{most-actions}
+use Rattle.meaning.specs.Numbers.{length-outside, property-refusal}
+use Rattle.laws.proofs.Tests.{or-split}
+use Rattle.meaning.proofs.Refusals.{none-first}
 use Rattle.meaning.proofs.Pairs.{good-bounds}
 use Rattle.meaning.proofs.Tests.{both, and-true, or-cases, or-left, or-right, some-to-found, some-to-here}
 use Rattle.meaning.proofs.Sets.{SetLaws, Reading}
@@ -33,36 +36,78 @@ fall-back-le s n k a (suc j) = go (goes-on s n k (suc j) a) refl (fall-back-le s
     go false e h = h
 
 module _ (p : Property) where
+  -- a length in the set, armed or not, of whose state a test holds
+  pub some-matched-found : (a : Lengths) (f : State → Bool) → some-matched p a f ≡ true
+      → (b : Bool) × (k : ℕ) × (k ≤ length (p .sequence)) × (a .at b k ≡ true) × (f (State.matched b k) ≡ true)
+  some-matched-found a f e = pick (or-cases (some-to (length (p .sequence)) (g false)) (some-to (length (p .sequence)) (g true)) e)
+    where
+      g : Bool → ℕ → Bool
+      g b k = a .at b k && f (State.matched b k)
+
+      found : (b : Bool) → some-to (length (p .sequence)) (g b) ≡ true
+          → (b : Bool) × (k : ℕ) × (k ≤ length (p .sequence)) × (a .at b k ≡ true) × (f (State.matched b k) ≡ true)
+      found b h =
+          let t : ((k : ℕ) × (k ≤ length (p .sequence)) × (g b k ≡ true)) = some-to-found (length (p .sequence)) (g b) h in
+          let w : (a .at b (t .0) ≡ true) × (f (State.matched b (t .0)) ≡ true) = both (a .at b (t .0)) (f (State.matched b (t .0))) (t .2) in
+          (b, t .0, t .1, w .0, w .1)
+
+      pick : (some-to (length (p .sequence)) (g false) ≡ true) ⊎ (some-to (length (p .sequence)) (g true) ≡ true)
+          → (b : Bool) × (k : ℕ) × (k ≤ length (p .sequence)) × (a .at b k ≡ true) × (f (State.matched b k) ≡ true)
+      pick (inl h) = found false h
+      pick (inr h) = found true h
+
+  pub some-matched-here : (a : Lengths) (f : State → Bool) (b : Bool) (k : ℕ) → k ≤ length (p .sequence) → a .at b k ≡ true
+      → f (State.matched b k) ≡ true → some-matched p a f ≡ true
+  some-matched-here a f false k h m e =
+      or-left (some-to (length (p .sequence)) (λ k. a .at true k && f (State.matched true k)))
+      (some-to-here (length (p .sequence)) (λ k. a .at false k && f (State.matched false k)) k h (and-true m e))
+  some-matched-here a f true k h m e =
+      or-right (some-to (length (p .sequence)) (λ k. a .at false k && f (State.matched false k)))
+      (some-to-here (length (p .sequence)) (λ k. a .at true k && f (State.matched true k)) k h (and-true m e))
+
   abbrev Member : Lengths → State → Type 0
-  Member a (State.matched k) = (k ≤ length (p .sequence)) × (a .at k ≡ true)
+  Member a (State.matched b k) = (k ≤ length (p .sequence)) × (a .at b k ≡ true)
   Member a State.broken = a .with-broken ≡ true
 
-  pub is-matched-eq : (j : ℕ) (q : State) → is-matched j q ≡ true → q ≡ State.matched j
-  is-matched-eq j (State.matched k) e = ap State.matched (eqb-true k j e)
-  is-matched-eq j State.broken e = absurd (true≢false (sym e))
+  flag-eq : (b c : Bool) → cond b c (not c) ≡ true → c ≡ b
+  flag-eq true c e = e
+  flag-eq false true e = absurd (true≢false (sym e))
+  flag-eq false false e = refl
 
-  eq-is-matched : (j : ℕ) (q : State) → q ≡ State.matched j → is-matched j q ≡ true
-  eq-is-matched j q e = subst (λ (x : State). is-matched j x ≡ true) (sym e) (eq-eqb j j refl)
+  flag-refl : (b : Bool) → cond b b (not b) ≡ true
+  flag-refl true = refl
+  flag-refl false = refl
+
+  pub is-matched-eq : (b : Bool) (j : ℕ) (q : State) → is-matched b j q ≡ true → q ≡ State.matched b j
+  is-matched-eq b j (State.matched c k) e =
+      let w : (cond b c (not c) ≡ true) × (eqb k j ≡ true) = both (cond b c (not c)) (eqb k j) e in
+      ap₂ State.matched (flag-eq b c (w .0)) (eqb-true k j (w .1))
+  is-matched-eq b j State.broken e = absurd (true≢false (sym e))
+
+  eq-is-matched : (b : Bool) (j : ℕ) (q : State) → q ≡ State.matched b j → is-matched b j q ≡ true
+  eq-is-matched b j q e = subst (λ (x : State). is-matched b j x ≡ true) (sym e) (and-true (flag-refl b) (eq-eqb j j refl))
 
   is-broken-eq : (q : State) → is-broken q ≡ true → q ≡ State.broken
-  is-broken-eq (State.matched k) e = absurd (true≢false (sym e))
+  is-broken-eq (State.matched b k) e = absurd (true≢false (sym e))
   is-broken-eq State.broken e = refl
 
-  matched-of : State → ℕ
-  matched-of (State.matched k) = k
-  matched-of State.broken = 0
+  is-armed : State → Bool
+  is-armed (State.matched b k) = b
+  is-armed State.broken = false
 
-  matched-not-broken : (k : ℕ) → State.matched k ≡ State.broken → ⊥
-  matched-not-broken k e = true≢false (ap is-broken (sym e))
+  matched-not-broken : (b : Bool) (k : ℕ) → State.matched b k ≡ State.broken → ⊥
+  matched-not-broken b k e = true≢false (ap is-broken (sym e))
 
-  pub next-le : (k j : ℕ) (l : Line) → state-next p (State.matched k) l ≡ State.matched j → j ≤ length (p .sequence)
-  next-le k j l e = go (eqb k (length (p .sequence)) && outside p (l .action)) e
+  pub next-le : (b c : Bool) (k j : ℕ) (l : Line) → state-next p (State.matched b k) l ≡ State.matched c j → j ≤ length (p .sequence)
+  next-le b c k j l e = go (b && outside p (l .action)) e
     where
-      go : (t : Bool) → cond t State.broken (State.matched (matched-next (p .sequence) k (l .action))) ≡ State.matched j → j ≤ length (p .sequence)
-      go true q = absurd (matched-not-broken j (sym q))
+      go : (t : Bool) → cond t State.broken (matched-on p b (l .action) (matched-next (p .sequence) k (l .action))) ≡ State.matched c j
+          → j ≤ length (p .sequence)
+      go true q = absurd (matched-not-broken c j (sym q))
       go false q = subst (λ (x : ℕ). x ≤ length (p .sequence)) (cc (q)) (fall-back-le (place (p .sequence)) (length (p .sequence)) k (l .action) k)
 
   pub length-laws : SetLaws (state-matcher p) (lengths p)
+  unfolding is-armed
   length-laws =
       record {
         Member = Member;
@@ -74,25 +119,27 @@ module _ (p : Property) where
         some-unbroken = unbroken;
       }
     where
-      start : (q : State) → Member at-start q ↔ (q ≡ State.matched 0)
-      start (State.matched k) = (λ m. ap State.matched (eqb-true k 0 (m .1)), λ e. let z : k ≡ 0 = cc in (omega arith, eq-eqb k 0 z))
-      start State.broken = (λ m. absurd (true≢false (sym m)), λ e. absurd (matched-not-broken 0 (sym e)))
+      start : (q : State) → Member at-start q ↔ (q ≡ State.matched false 0)
+      start (State.matched true k) = (λ m. absurd (true≢false (sym (m .1))), λ e. absurd (true≢false (ap is-armed e)))
+      start (State.matched false k) =
+          (λ m. ap (State.matched false) (eqb-true k 0 (m .1)), λ e. let z : k ≡ 0 = cc in (omega arith, eq-eqb k 0 z))
+      start State.broken = (λ m. absurd (true≢false (sym m)), λ e. absurd (matched-not-broken false 0 (sym e)))
 
       none : (q : State) → ¬ Member none-of q
-      none (State.matched k) m = true≢false (sym (m .1))
+      none (State.matched b k) m = true≢false (sym (m .1))
       none State.broken m = true≢false (sym m)
 
       join : (a b : Lengths) (q : State) → Member (either a b) q ↔ (Member a q ⊎ Member b q)
-      join a b (State.matched k) =
-          (λ m. there (m .0) (or-cases (a .at k) (b .at k) (m .1)), back)
+      join a b (State.matched c k) =
+          (λ m. there (m .0) (or-cases (a .at c k) (b .at c k) (m .1)), back)
         where
-          there : k ≤ length (p .sequence) → (a .at k ≡ true) ⊎ (b .at k ≡ true) → Member a (State.matched k) ⊎ Member b (State.matched k)
+          there : k ≤ length (p .sequence) → (a .at c k ≡ true) ⊎ (b .at c k ≡ true) → Member a (State.matched c k) ⊎ Member b (State.matched c k)
           there h (inl e) = inl (h, e)
           there h (inr e) = inr (h, e)
 
-          back : Member a (State.matched k) ⊎ Member b (State.matched k) → Member (either a b) (State.matched k)
-          back (inl m) = (m .0, or-left (b .at k) (m .1))
-          back (inr m) = (m .0, or-right (a .at k) (m .1))
+          back : Member a (State.matched c k) ⊎ Member b (State.matched c k) → Member (either a b) (State.matched c k)
+          back (inl m) = (m .0, or-left (b .at c k) (m .1))
+          back (inr m) = (m .0, or-right (a .at c k) (m .1))
       join a b State.broken = (λ m. or-cases (a .with-broken) (b .with-broken) m, back)
         where
           back : Member a State.broken ⊎ Member b State.broken → Member (either a b) State.broken
@@ -100,49 +147,32 @@ module _ (p : Property) where
           back (inr m) = or-right (a .with-broken) m
 
       move : (a : Lengths) (l : Line) (q : State) → Member (moved p a l) q ↔ ((r : State) × Member a r × (state-next p r l ≡ q))
-      move a l (State.matched j) = (there, back)
+      move a l (State.matched c j) = (there, λ t. from (t .0) (t .1) (t .2))
         where
-          f : ℕ → Bool
-          f k = a .at k && is-matched j (state-next p (State.matched k) l)
-
-          there : Member (moved p a l) (State.matched j) → (r : State) × Member a r × (state-next p r l ≡ State.matched j)
+          there : Member (moved p a l) (State.matched c j) → (r : State) × Member a r × (state-next p r l ≡ State.matched c j)
           there m =
-              let t : ((k : ℕ) × (k ≤ length (p .sequence)) × (f k ≡ true)) = some-to-found (length (p .sequence)) f (m .1) in
-              let w : (a .at (t .0) ≡ true) × (is-matched j (state-next p (State.matched (t .0)) l) ≡ true) = both (a .at (t .0)) _ (t .2) in
-              (State.matched (t .0), (t .1, w .0), is-matched-eq j (state-next p (State.matched (t .0)) l) (w .1))
+              let t = some-matched-found a (λ q. is-matched c j (state-next p q l)) (m .1) in
+              (State.matched (t .0) (t .1), (t .2, t .3), is-matched-eq c j (state-next p (State.matched (t .0) (t .1)) l) (t .4))
 
-          back : ((r : State) × Member a r × (state-next p r l ≡ State.matched j)) → Member (moved p a l) (State.matched j)
-          back t = from (t .0) (t .1) (t .2)
-            where
-              from : (r : State) → Member a r → state-next p r l ≡ State.matched j → Member (moved p a l) (State.matched j)
-              from (State.matched k) m e = (
-                next-le k j l e,
-                some-to-here (length (p .sequence)) f k (m .0) (and-true (m .1) (eq-is-matched j (state-next p (State.matched k) l) e)),
-              )
-              from State.broken m e = absurd (matched-not-broken j (sym e))
-      move a l State.broken = (there, back)
+          from : (r : State) → Member a r → state-next p r l ≡ State.matched c j → Member (moved p a l) (State.matched c j)
+          from (State.matched b k) m e = (
+            next-le b c k j l e,
+            some-matched-here a (λ q. is-matched c j (state-next p q l)) b k (m .0) (m .1) (eq-is-matched c j (state-next p (State.matched b k) l) e),
+          )
+          from State.broken m e = absurd (matched-not-broken c j (sym e))
+      move a l State.broken = (λ m. there (or-cases (a .with-broken) (some-matched p a (λ q. is-broken (state-next p q l))) m), λ t. from (t .0) (t .1) (t .2))
         where
-          f : ℕ → Bool
-          f k = a .at k && is-broken (state-next p (State.matched k) l)
+          there : (a .with-broken ≡ true) ⊎ (some-matched p a (λ q. is-broken (state-next p q l)) ≡ true)
+              → (r : State) × Member a r × (state-next p r l ≡ State.broken)
+          there (inl h) = (State.broken, h, refl)
+          there (inr h) =
+              let t = some-matched-found a (λ q. is-broken (state-next p q l)) h in
+              (State.matched (t .0) (t .1), (t .2, t .3), is-broken-eq (state-next p (State.matched (t .0) (t .1)) l) (t .4))
 
-          there : Member (moved p a l) State.broken → (r : State) × Member a r × (state-next p r l ≡ State.broken)
-          there m = pick (or-cases (a .with-broken) (some-to (length (p .sequence)) f) m)
-            where
-              pick : (a .with-broken ≡ true) ⊎ (some-to (length (p .sequence)) f ≡ true) → (r : State) × Member a r × (state-next p r l ≡ State.broken)
-              pick (inl h) = (State.broken, h, refl)
-              pick (inr h) =
-                  let t : ((k : ℕ) × (k ≤ length (p .sequence)) × (f k ≡ true)) = some-to-found (length (p .sequence)) f h in
-                  let w : (a .at (t .0) ≡ true) × (is-broken (state-next p (State.matched (t .0)) l) ≡ true) = both (a .at (t .0)) _ (t .2) in
-                  (State.matched (t .0), (t .1, w .0), is-broken-eq (state-next p (State.matched (t .0)) l) (w .1))
-
-          back : ((r : State) × Member a r × (state-next p r l ≡ State.broken)) → Member (moved p a l) State.broken
-          back t = from (t .0) (t .1) (t .2)
-            where
-              from : (r : State) → Member a r → state-next p r l ≡ State.broken → Member (moved p a l) State.broken
-              from (State.matched k) m e =
-                  or-right (a .with-broken)
-                  (some-to-here (length (p .sequence)) f k (m .0) (and-true (m .1) (ap is-broken e)))
-              from State.broken m e = or-left (some-to (length (p .sequence)) f) m
+          from : (r : State) → Member a r → state-next p r l ≡ State.broken → Member (moved p a l) State.broken
+          from (State.matched b k) m e =
+              or-right (a .with-broken) (some-matched-here a (λ q. is-broken (state-next p q l)) b k (m .0) (m .1) (ap is-broken e))
+          from State.broken m e = or-left (some-matched p a (λ q. is-broken (state-next p q l))) m
 
       broken : (a : Lengths) → (a .with-broken ≡ true) ↔ ((q : State) × Member a q × (is-broken q ≡ true))
       broken a = (λ e. (State.broken, e, refl), λ t. subst (Member a) (is-broken-eq (t .0) (t .2)) (t .1))
@@ -151,15 +181,19 @@ module _ (p : Property) where
       unbroken a = (there, λ t. from (t .0) (t .1) (t .2))
         where
           there : some-length p a ≡ true → (q : State) × Member a q × (is-broken q ≡ false)
-          there e =
-              let t : ((k : ℕ) × (k ≤ length (p .sequence)) × (a .at k ≡ true)) = some-to-found (length (p .sequence)) (a .at) e in
-              (State.matched (t .0), (t .1, t .2), refl)
+          there e = let t = some-matched-found a (λ q. true) e in (State.matched (t .0) (t .1), (t .2, t .3), refl)
 
           from : (q : State) → Member a q → is-broken q ≡ false → some-length p a ≡ true
-          from (State.matched k) m e = some-to-here (length (p .sequence)) (a .at) k (m .0) (m .1)
+          from (State.matched b k) m e = some-matched-here a (λ q. true) b k (m .0) (m .1) refl
           from State.broken m e = absurd (true≢false e)
+
+-- a property that no refusal names has a sequence
+pub some-sequence : (p : Property) → property-refusal p ≡ 0 → 0 < length (p .sequence)
+some-sequence p good =
+    ltb-false (length (p .sequence)) 1
+    (or-split (ltb (length (p .sequence)) 1) (ltb most-actions (length (p .sequence))) (none-first 0 (length-outside (length (p .sequence))) good .0) .0)
 
 -- The reading in use, of a property that no refusal names.
 abbrev pub lengths-reading : (p : Property) → property-refusal p ≡ 0 → Reading p (Breaks p)
 lengths-reading p good =
-    record { bounds = good-bounds p good; matcher = state-matcher p; sets = lengths p; laws = length-laws p; reads = matcher-reads p }
+    record { bounds = good-bounds p good; matcher = state-matcher p; sets = lengths p; laws = length-laws p; reads = matcher-reads p (some-sequence p good) }

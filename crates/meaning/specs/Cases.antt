@@ -1,4 +1,5 @@
--- Document 01, "Stamps on either side of each bound": the cases marked P, as one list.
+-- Document 01, "Stamps on either side of each bound": the cases marked P, as one list. Document 02, CR 1: "Cases 8 and 9 become
+-- certain; the others stay."
 use Prim.Native.Nat.{ℕ}
 use mathlib.Core.Path.{_≡_}
 use mathlib.Core.List.{List, [], _∷_}
@@ -40,8 +41,8 @@ cases =
     ∷ case 6 (inp 0 100 ∷ out 2 100 ∷ []) Verdict.clear
     ∷ case 6 (out 2 100 ∷ inp 0 100 ∷ []) Verdict.clear
     ∷ case 7 (inp 0 100 ∷ out 1 161 ∷ []) Verdict.clear
-    ∷ case 8 (inp 0 100 ∷ inp 1 101 ∷ out 2 161 ∷ []) Verdict.suspect
-    ∷ case 9 (inp 0 100 ∷ inp 1 100 ∷ out 2 161 ∷ []) Verdict.clear
+    ∷ case 8 (inp 0 100 ∷ inp 1 101 ∷ out 2 161 ∷ []) Verdict.certain
+    ∷ case 9 (inp 0 100 ∷ inp 1 100 ∷ out 2 161 ∷ []) Verdict.certain
     ∷ case 10 (inp 0 100 ∷ []) Verdict.clear
     ∷ case 10 (inp 0 100 ∷ out 1 130 ∷ []) Verdict.clear
     ∷ case 10 (inp 0 100 ∷ out 1 130 ∷ out 2 161 ∷ []) Verdict.suspect

@@ -82,4 +82,5 @@ pub record BreaksAfter (p : Property) (earlier : List Line) (order : List Line) 
   pub behind : List Line
   pub stands : order ≡ before ++ first ∷ behind
   pub begins : LoggedAfter earlier before (first .action)
-  pub breach : Breach p (actions (first ∷ behind))
+  pub between : List ℕ
+  pub breach : Breach p between (actions (first ∷ behind))

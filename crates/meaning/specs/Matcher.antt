@@ -36,33 +36,47 @@ fall-back s n k a (suc j) = cond (goes-on s n k (suc j) a) (suc (suc j)) (fall-b
 abbrev pub matched-next : List Action → ℕ → Action → ℕ
 matched-next s k a = fall-back (place s) (length s) k a k
 
--- What the matcher remembers of an order: the length of the longest beginning of the sequence that ends it, or that it has broken.
-pub data State : Type 0 where
-  matched : ℕ → State
-  broken : State
+-- An input; "an output outside the allowed set".
+abbrev pub is-input : Action → Bool
+is-input (Action.input k) = true
+is-input (Action.output k) = false
 
--- "an output outside the allowed set"
 abbrev pub outside : Property → Action → Bool
 outside p (Action.input k) = false
 outside p (Action.output k) = not (p .allowed k)
 
--- The whole sequence matched and the very next action outside the set: broken, and that is kept.
+-- What the matcher remembers of an order: that it has broken, or else is it armed (the sequence has occurred, and behind it only
+-- inputs), and the length of the longest beginning of the sequence that ends it.
+pub data State : Type 0 where
+  matched : Bool → ℕ → State
+  broken : State
+
+-- Armed behind the action a, which leads to the matched length k: set by a whole match, kept by inputs, cleared by an output.
+abbrev pub armed-next : Property → Bool → Action → ℕ → Bool
+armed-next p armed a k = eqb k (length (p .sequence)) || (armed && is-input a)
+
+-- The matcher goes on behind an action, armed or not.
+abbrev pub matched-on : Property → Bool → Action → ℕ → State
+matched-on p armed a k = State.matched (armed-next p armed a k) k
+
+-- Armed, and then an output outside the set: broken, and that is kept.
 abbrev pub state-next : Property → State → Line → State
-state-next p (State.matched k) l =
-    cond (eqb k (length (p .sequence)) && outside p (l .action)) State.broken (State.matched (matched-next (p .sequence) k (l .action)))
+state-next p (State.matched armed k) l =
+    cond (armed && outside p (l .action)) State.broken (matched-on p armed (l .action) (matched-next (p .sequence) k (l .action)))
 state-next p State.broken l = State.broken
 
--- A set of states: is length k among them, and is broken.
+-- A set of states: is length k among them, armed or not, and is broken.
 pub record Lengths : Type 0 where
-  pub at : ℕ → Bool
+  pub at : Bool → ℕ → Bool
   pub with-broken : Bool
 
-abbrev pub is-matched : ℕ → State → Bool
-is-matched j (State.matched k) = eqb k j
-is-matched j State.broken = false
+-- Is a state the length j, armed or not as given; is it broken.
+abbrev pub is-matched : Bool → ℕ → State → Bool
+is-matched armed j (State.matched b k) = cond armed b (not b) && eqb k j
+is-matched armed j State.broken = false
 
 abbrev pub is-broken : State → Bool
-is-broken (State.matched k) = false
+is-broken (State.matched b k) = false
 is-broken State.broken = true
 
 -- Does f hold of some length up to n?
@@ -70,24 +84,30 @@ unfoldable pub some-to : ℕ → (ℕ → Bool) → Bool
 some-to zero f = f zero
 some-to (suc n) f = f (suc n) || some-to n f
 
-abbrev pub none-of : Lengths
-none-of = record { at = λ k. false; with-broken = false }
+-- Is there a length of the property in the set, armed or not, of whose state f holds?
+abbrev pub some-matched : Property → Lengths → (State → Bool) → Bool
+some-matched p s f =
+    let n : ℕ = length (p .sequence) in
+    some-to n (λ k. s .at false k && f (State.matched false k)) || some-to n (λ k. s .at true k && f (State.matched true k))
 
--- Nothing matched yet.
+abbrev pub none-of : Lengths
+none-of = record { at = λ armed k. false; with-broken = false }
+
+-- Nothing matched yet, and not armed.
 abbrev pub at-start : Lengths
-at-start = record { at = λ k. eqb k 0; with-broken = false }
+at-start = record { at = λ armed k. not armed && eqb k 0; with-broken = false }
 
 abbrev pub either : Lengths → Lengths → Lengths
-either s t = record { at = λ k. s .at k || t .at k; with-broken = s .with-broken || t .with-broken }
+either s t = record { at = λ armed k. s .at armed k || t .at armed k; with-broken = s .with-broken || t .with-broken }
 
 -- The states that those of the set move to at a line.
 abbrev pub moved : Property → Lengths → Line → Lengths
 moved p s l =
-    let n : ℕ = length (p .sequence) in
     record {
-      at = λ j. some-to n (λ k. s .at k && is-matched j (state-next p (State.matched k) l));
-      with-broken = s .with-broken || some-to n (λ k. s .at k && is-broken (state-next p (State.matched k) l));
+      at = λ armed j. some-matched p s (λ q. is-matched armed j (state-next p q l));
+      with-broken = s .with-broken || some-matched p s (λ q. is-broken (state-next p q l));
     }
 
+-- Is there one that has not broken?
 abbrev pub some-length : Property → Lengths → Bool
-some-length p s = some-to (length (p .sequence)) (s .at)
+some-length p s = some-matched p s (λ q. true)

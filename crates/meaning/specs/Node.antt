@@ -90,12 +90,12 @@ pub record CutRule (p : Property) (run : Run) (i q : ℕ) : Type 0 where
 abbrev pub actions : List Line → List Action
 actions lines = map (λ (l : Line). l .action) lines
 
--- "An order breaks the property if the sequence occurs in it as neighbouring actions and the very next action is an output
--- outside the allowed set." Of these actions the first are the sequence, and the very next one is such an output:
-pub record Breach (p : Property) (behind : List Action) : Type 0 where
+-- Document 02, CR 1: "an order breaks the property if the sequence occurs as neighbours, then any number of inputs, none
+-- included, then an output outside the set." Of these actions the first are the sequence, then these inputs, then such an output:
+pub record Breach (p : Property) (between : List ℕ) (behind : List Action) : Type 0 where
   pub answer : ℕ
   pub after : List Action
-  pub occurs : behind ≡ p .sequence ++ Action.output answer ∷ after
+  pub occurs : behind ≡ p .sequence ++ (map Action.input between ++ Action.output answer ∷ after)
   pub outside : p .allowed answer ≡ false
 
 -- and the order breaks if what stands behind some place in it is such a breach.
@@ -103,7 +103,8 @@ pub record Breaks (p : Property) (order : List Line) : Type 0 where
   pub before : List Line
   pub behind : List Line
   pub stands : order ≡ before ++ behind
-  pub breach : Breach p (actions behind)
+  pub between : List ℕ
+  pub breach : Breach p between (actions behind)
 
 -- "0 clear, no explanation breaks; 1 suspect, some break and some don't; 2 certain, all break; 3 blind, no run is open"
 pub data Verdict : Type 0 where
