@@ -1,7 +1,8 @@
 /*
  * Anthegyra's stretch judge, for a C or C++ program. Link libstretch.a (x86-64) beside yours.
  *
- * A stretch is one packed property and one packed trace, each whole and alone in its slice:
+ * A property is: after this sequence the next answer may only be one of these, whatever requests come
+ * in between. A stretch is one packed property and one packed trace, each whole and alone in its slice:
  *
  *   property   17 bytes for a sequence of one action, up to 44 for 32
  *   trace      6 bytes for each record, the last of them an end record; at most 16,383 others
@@ -38,8 +39,9 @@
 #include <stddef.h>
 #include <stdint.h>
 
-/* One more whenever the call, its numbers, a name here or a packed form changes. */
-#define ANTHEGYRA_VERSION 1
+/* One more whenever the call, its numbers or what they mean, a name here or a packed form changes. Since
+   2 a message on its way to the node does not end what the sequence began. */
+#define ANTHEGYRA_VERSION 2
 
 /* What the orders of events at the node that fit the stamps have in common. */
 enum anthegyra_verdict_number {
