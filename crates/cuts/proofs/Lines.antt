@@ -18,7 +18,7 @@ use Rattle.meaning.specs.Matcher.{Lengths}
 use Rattle.meaning.specs.Step.{Held, Front, lengths}
 use Rattle.property.specs.Meant.{action-of, meant}
 use Rattle.property.specs.declared.Property.{Property}
-use Rattle.matcher.specs.declared.sets.Cut.{Cut}
+use Rattle.matcher.specs.declared.Cut.{Cut}
 use Rattle.matcher.specs.Sets.{set-of, cut-of, Fits, Moved}
 use Rattle.matcher.proofs.Words.{cut-back}
 use Rattle.held.specs.Held.{line-at, Closes}

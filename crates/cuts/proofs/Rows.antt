@@ -15,7 +15,7 @@ use Rattle.meaning.specs.Matcher.{Lengths, moved}
 use Rattle.meaning.specs.Step.{Held, lengths, swept-one}
 use Rattle.property.specs.Meant.{meant}
 use Rattle.property.specs.declared.Property.{Property}
-use Rattle.matcher.specs.declared.sets.Cut.{Cut}
+use Rattle.matcher.specs.declared.Cut.{Cut}
 use Rattle.matcher.specs.Sets.{set-of, Fits, Moved}
 use Rattle.held.specs.Held.{line-at}
 use Rattle.cuts.specs.declared.Row.{Row}

@@ -13,7 +13,7 @@ use Rattle.meaning.specs.Matcher.{Lengths}
 use Rattle.meaning.specs.Step.{Held, Front, lengths, swept-one}
 use Rattle.property.specs.Meant.{action-of, meant}
 use Rattle.property.specs.declared.Property.{Property}
-use Rattle.matcher.specs.declared.sets.Cut.{Cut}
+use Rattle.matcher.specs.declared.Cut.{Cut}
 use Rattle.matcher.specs.Sets.{set-of, cut-of, Fits, Moved}
 use Rattle.held.specs.Held.{line-at, Tidy}
 use Rattle.cuts.specs.declared.Row.{Row}

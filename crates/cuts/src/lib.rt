@@ -13,14 +13,13 @@ ghost use Rattle.meaning.specs.Matcher.{some-to};
 ghost use Rattle.meaning.specs.Numbers.{property-refusal};
 ghost use Rattle.property.specs.Meant.{meant};
 ghost use Rattle.property.specs.declared.Property.{Property};
-ghost use Rattle.matcher.specs.Table.{IsTable};
+ghost use Rattle.table.specs.Table.{IsTable};
 ghost use Rattle.matcher.specs.Sets.{Fits};
 ghost use Rattle.matcher.specs.Sets;
 ghost use Rattle.held.specs.Held.{Closes};
 ghost use Rattle.cuts.specs.Steps.{line-of, front-after, front-says};
 ghost use Rattle.cuts.specs.Arrays.{row, cut-at, front-of, RowTidy, Usable, Holds, Swept, SweptOne, Appended};
-use matcher::sets;
-use matcher::sets::Cut;
+use matcher::Cut;
 use property::Property;
 
 // "there are never more than sixty-five cuts to hold": the matched lengths of each as a mask, and the marks beside it.
@@ -88,7 +87,7 @@ pub fn strays(masks: &[u64; 65], marks: &[u64; 65], count: usize, n: usize) -> b
 {
     let mut i = 0;
     while i <= count {
-        if sets::stray(n, cut_at(masks, marks, i)) {
+        if matcher::stray(n, cut_at(masks, marks, i)) {
             return true;
         }
         i += 1;
@@ -102,7 +101,7 @@ pub fn verdict(masks: &[u64; 65], marks: &[u64; 65], count: usize) -> u8
     ensures { λ r. ⌜ ((p : Property) (held acts : List ℕ) → Fits p (cut-at (row (now (masks .entry)) (now (marks .entry))) count)
         → r ≡ verdict-number (front-says p (front-of held acts count (row (now (masks .entry)) (now (marks .entry)))))) ⌝ }
 {
-    sets::verdict(cut_at(masks, marks, count))
+    matcher::verdict(cut_at(masks, marks, count))
 }
 
 // The new set of the cut after an open input, when an output comes: the output directly behind that input, if the input
@@ -120,10 +119,10 @@ fn swept_cut(
     requires { ⌜ (property-refusal (meant p) ≡ 0) × IsTable p (now table) × (stamp ≤ last-stamp) × Fits p before × Fits p after ⌝ }
     ensures { λ r. ⌜ SweptOne p act t stamp input before after r ⌝ }
 {
-    let behind = sets::moved(p, table, before, false, input);
+    let behind = matcher::moved(p, table, before, false, input);
     if stamp + 2 * p.lb <= t {
-        let direct = sets::moved(p, table, after, true, act);
-        return sets::joined(direct, behind);
+        let direct = matcher::moved(p, table, after, true, act);
+        return matcher::joined(direct, behind);
     }
     behind
 }
@@ -143,7 +142,7 @@ pub fn sweep(
     requires { ⌜ Usable p (now held) (now acts) count (row (now masks) (now marks)) × IsTable p (now table) ⌝ }
     ensures { λ _. ⌜ Swept p (now (held .entry)) (now (acts .entry)) count act t (row (now (masks .entry)) (now (marks .entry))) (row (now (masks .exit)) (now (marks .exit))) ⌝ }
 {
-    let mut cut = sets::moved(p, table, cut_at(masks, marks, 0), true, act);
+    let mut cut = matcher::moved(p, table, cut_at(masks, marks, 0), true, act);
     let mut i = 0;
     while i < count {
         let after = cut_at(masks, marks, i + 1);
@@ -170,7 +169,7 @@ pub fn append(
     ensures { λ _. ⌜ Appended p count act (row (now (masks .entry)) (now (marks .entry))) (row (now (masks .exit)) (now (marks .exit))) ⌝ }
 {
     let last = cut_at(masks, marks, count);
-    let cut = sets::moved(p, table, last, false, act);
+    let cut = matcher::moved(p, table, last, false, act);
     masks[count + 1] = cut.mask;
     marks[count + 1] = cut.marks;
 }

@@ -5,7 +5,7 @@ ghost use mathlib.Core.Path.{_≡_};
 ghost use mathlib.Core.Bool.{true};
 ghost use lib.ListN.{length};
 ghost use Rattle.io.specs.Counts.{Counts};
-ghost use Rattle.matcher.specs.Table.{IsTable};
+ghost use Rattle.table.specs.Table.{IsTable};
 ghost use Rattle.printout.specs.Text.{room};
 ghost use Rattle.session.specs.Lent.{in-arrays, Ready};
 use held::Status;
@@ -101,7 +101,7 @@ fn records(fd: i32, s: Session)
     let p = s.property;
     let shared = s.shared;
     let row = s.row;
-    let table = matcher::table(p);
+    let table = table::table(p);
     let mut held = shared.held;
     let mut acts = shared.acts;
     let mut masks = row.masks;

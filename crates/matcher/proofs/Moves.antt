@@ -16,9 +16,9 @@ use Rattle.laws.specs.Bits.{bit}
 use Rattle.property.specs.Meant.{action-of, meant}
 use Rattle.property.specs.declared.Property.{Property}
 use Rattle.matcher.specs.Sets.{stepped, arranged}
-use Rattle.matcher.specs.Table.{action-at, row-of, IsTable}
+use Rattle.table.specs.Table.{action-at, row-of, IsTable}
 use Rattle.laws.proofs.Bits.{bit-low, bit-above, bit-none, bit-one}
-use Rattle.matcher.proofs.Recursion.{fall-back-le}
+use Rattle.table.proofs.Recursion.{fall-back-le}
 use Rattle.meaning.proofs.Tests.{some-to-agree, some-to-none}
 use Rattle.laws.proofs.Places.{length-first}
 

@@ -16,11 +16,11 @@ use Rattle.laws.specs.Bits.{bit}
 use Rattle.laws.proofs.Bits.{bit-or, bit-none}
 use Rattle.property.specs.Meant.{action-of, meant}
 use Rattle.property.specs.declared.Property.{Property}
-use Rattle.matcher.specs.declared.sets.Cut.{Cut}
+use Rattle.matcher.specs.declared.Cut.{Cut}
 use Rattle.matcher.specs.Sets.{set-of, Fits, stepped, arranged, Arranged, Moved}
-use Rattle.matcher.specs.Table.{row-of, IsTable}
-use Rattle.matcher.proofs.Formed.{formed-length}
-use Rattle.matcher.proofs.TableRows.{row-le}
+use Rattle.table.specs.Table.{row-of, IsTable}
+use Rattle.table.proofs.Formed.{formed-length}
+use Rattle.table.proofs.TableRows.{row-le}
 use Rattle.matcher.proofs.Moves.{entry-le, moved-input, moved-allowed, moved-outside}
 use Rattle.matcher.proofs.Words.{fits-parts, parts-fit, armed-lt, armed-is, some-in-mask, bit-with, lowest-digit}
 

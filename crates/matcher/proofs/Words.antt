@@ -25,10 +25,10 @@ use Rattle.laws.proofs.Bits.{bit-zero, bit-suc, bit-none, bit-or, bit-mask, bit
 use Rattle.laws.proofs.Places.{length-first}
 use Rattle.property.specs.Meant.{meant}
 use Rattle.property.specs.declared.Property.{Property}
-use Rattle.matcher.specs.declared.sets.Cut.{Cut}
-use Rattle.matcher.specs.Table.{action-at}
+use Rattle.matcher.specs.declared.Cut.{Cut}
+use Rattle.table.specs.Table.{action-at}
 use Rattle.matcher.specs.Sets.{set-of, marked, cut-of, stray, Fits, set-verdict, Short, arranged, Arranged}
-use Rattle.matcher.proofs.Formed.{formed-length}
+use Rattle.table.proofs.Formed.{formed-length}
 use Rattle.matcher.proofs.Moves.{below-whole, whole-alone}
 
 -- ---- words in their range

@@ -13,7 +13,7 @@ use Rattle.meaning.specs.Matcher.{Lengths, some-to, some-length, moved, either}
 use Rattle.meaning.specs.Step.{lengths, verdict-of}
 use Rattle.property.specs.Meant.{meant}
 use Rattle.property.specs.declared.Property.{Property}
-use Rattle.matcher.specs.declared.sets.Cut.{Cut}
+use Rattle.matcher.specs.declared.Cut.{Cut}
 
 -- The set that two words stand for: bit k of the mask is set where length k is in it, not armed; bit k + 1 of the marks where length k
 -- is in it, armed; bit 0 of the marks where broken is.

@@ -1,7 +1,7 @@
 // A record on lent arrays, which hold 0 in each place not in use: the printing program lends them from record to record.
 ghost use mathlib.Core.Path.{_≡_};
 ghost use mathlib.Core.Bool.{cond};
-ghost use Rattle.matcher.specs.Table.{IsTable};
+ghost use Rattle.table.specs.Table.{IsTable};
 ghost use Rattle.record_form.specs.Record.{gap};
 ghost use Rattle.session.specs.Lent.{in-arrays, Ready};
 ghost use Rattle.printout.specs.Text.{line-text, end-text, stop-text};

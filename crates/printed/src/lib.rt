@@ -36,7 +36,7 @@ pub fn record(s: Session, count: u64, bytes: &[u8]) -> Printed
     let p = s.property;
     let shared = s.shared;
     let row = s.row;
-    let table = matcher::table(p);
+    let table = table::table(p);
     let mut held = shared.held;
     let mut acts = shared.acts;
     let mut masks = row.masks;

@@ -8,7 +8,7 @@ use Rattle.meaning.specs.Calls.{Call}
 use Rattle.meaning.specs.Matcher.{Lengths}
 use Rattle.meaning.specs.Step.{Front}
 use Rattle.property.specs.declared.Property.{Property}
-use Rattle.matcher.specs.declared.sets.Cut.{Cut}
+use Rattle.matcher.specs.declared.Cut.{Cut}
 use Rattle.held.specs.declared.Status.{Status}
 use Rattle.cuts.specs.Steps.{front-says, says}
 use Rattle.cuts.specs.Arrays.{row, Holds}

@@ -9,7 +9,7 @@ ghost use Rattle.meaning.specs.Matcher.{at-start};
 ghost use Rattle.meaning.specs.Numbers.{given, first-of};
 ghost use Rattle.meaning.specs.Calls.{Call, stamp-refusal};
 ghost use Rattle.meaning.specs.Calls;
-ghost use Rattle.matcher.specs.Table.{IsTable};
+ghost use Rattle.table.specs.Table.{IsTable};
 ghost use Rattle.matcher.specs.Sets.{cut-of};
 ghost use Rattle.held.specs.Held.{Closes};
 ghost use Rattle.cuts.specs.Steps.{line-of, front-after};
@@ -22,7 +22,6 @@ use held::Status;
 use limits::LAST_ACTION;
 use limits::LAST_STAMP;
 use limits::MOST_OPEN;
-use matcher::sets;
 use property::Property;
 
 // What a call on lent arrays gives back beside them.
@@ -138,7 +137,7 @@ pub fn tidy(
 fn begin(masks: &mut [u64; 65], marks: &mut [u64; 65])
     ensures { λ _. ⌜ (now (masks .exit) ≡ set (now (masks .entry)) 0 (cut-of at-start .mask)) × (now (marks .exit) ≡ set (now (marks .entry)) 0 (cut-of at-start .marks)) ⌝ }
 {
-    let first = sets::start();
+    let first = matcher::start();
     masks[0] = first.mask;
     marks[0] = first.marks;
 }

@@ -14,8 +14,7 @@ use held::Shared;
 use held::Status;
 use limits::LAST_STAMP;
 use limits::MOST_OPEN;
-use matcher::sets;
-use matcher::sets::Cut;
+use matcher::Cut;
 use property::Property;
 
 pub struct Session {
@@ -142,9 +141,9 @@ pub fn fresh(p: Property) -> Stepped
 {
     let number = property::refused(p);
     if number != 0 {
-        return unmoved(blank(no_property(), sets::none()), number);
+        return unmoved(blank(no_property(), matcher::none()), number);
     }
-    unmoved(blank(p, sets::start()), 0)
+    unmoved(blank(p, matcher::start()), 0)
 }
 
 // A line: an output or an input, the number of its action, its stamp.
@@ -157,7 +156,7 @@ pub fn line(s: Session, output: bool, action: u8, stamp: u64) -> Stepped
     let p = s.property;
     let shared = s.shared;
     let row = s.row;
-    let table = matcher::table(p);
+    let table = table::table(p);
     let mut held = shared.held;
     let mut acts = shared.acts;
     let mut masks = row.masks;

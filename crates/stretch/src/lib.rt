@@ -52,7 +52,7 @@ fn trace_verdict(p: Property, trace: &[u8]) -> Judged
     requires { ⌜ property-refusal (meant p) ≡ 0 ⌝ }
     ensures { λ r. ⌜ r ≡ trace-judged p (now (trace .entry)) ⌝ }
 {
-    let table = matcher::table(p);
+    let table = table::table(p);
     let fresh = session::fresh(p);
     let s = fresh.session;
     let shared = s.shared;

@@ -2,7 +2,7 @@
 ghost use mathlib.Core.Path.{_≡_};
 ghost use lib.ListN.{length};
 ghost use Rattle.fields.specs.Rest.{Rest};
-ghost use Rattle.matcher.specs.Table.{IsTable};
+ghost use Rattle.table.specs.Table.{IsTable};
 ghost use Rattle.session.specs.Lent.{in-arrays, Ready};
 ghost use Rattle.walk.specs.Walk.{in-numbers, walk-of, budget-of, rest-start};
 ghost use Rattle.walk.specs.Lent.{did-of, Turned, HasGone};
@@ -217,7 +217,7 @@ pub fn walk(s: Session, trace: &[u8], budget: usize) -> Walked
     let p = s.property;
     let shared = s.shared;
     let row = s.row;
-    let table = matcher::table(p);
+    let table = table::table(p);
     let mut held = shared.held;
     let mut acts = shared.acts;
     let mut masks = row.masks;

@@ -1,7 +1,7 @@
 -- `cuts::append` meets its contract: one cut more.
 use mathlib.Core.Path.{sym, subst}
 use borrow.Author.Needs.{needs}
-use Rattle.matcher.specs.declared.sets.Cut.{Cut}
+use Rattle.matcher.specs.declared.Cut.{Cut}
 use Rattle.matcher.specs.Sets.{Fits, Moved}
 use Rattle.property.specs.Meant.{action-of}
 use mathlib.Core.Bool.{false}

@@ -6,7 +6,7 @@ use borrow.Author.Needs.{needs}
 use Rattle.meaning.specs.Matcher.{moved}
 use Rattle.property.specs.Meant.{meant}
 use mathlib.Core.Bool.{true}
-use Rattle.matcher.specs.declared.sets.Cut.{Cut}
+use Rattle.matcher.specs.declared.Cut.{Cut}
 use Rattle.matcher.specs.Sets.{set-of, Fits}
 use Rattle.cuts.specs.Steps.{line-of}
 use Rattle.cuts.specs.Arrays.{row}

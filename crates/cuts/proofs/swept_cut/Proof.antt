@@ -8,7 +8,7 @@ use borrow.Author.Tests.{le-leb, lt-leb}
 use Rattle.meaning.specs.Matcher.{moved, either, none-of}
 use Rattle.property.specs.Meant.{meant}
 use Rattle.matcher.specs.Sets.{set-of}
-use Rattle.matcher.proofs.Formed.{formed-bounds}
+use Rattle.table.proofs.Formed.{formed-bounds}
 use Rattle.cuts.specs.Steps.{line-of}
 use Rattle.cuts.proofs.swept_cut.Statement.{statement}
 use Rattle.cuts.proofs.swept_cut.Tie as tie

@@ -4,7 +4,7 @@ use borrow.Author.Needs.{needs}
 use Rattle.meaning.specs.Node.{verdict-number}
 use Rattle.meaning.specs.Matcher.{Lengths}
 use Rattle.property.specs.Meant.{meant}
-use Rattle.matcher.specs.declared.sets.Cut.{Cut}
+use Rattle.matcher.specs.declared.Cut.{Cut}
 use Rattle.matcher.specs.Sets.{set-of, Fits, set-verdict}
 use Rattle.held.specs.Held.{line-at}
 use Rattle.cuts.specs.Arrays.{row, set-at}

@@ -6,7 +6,7 @@ use lib.Dec.{ltb}
 use Rattle.meaning.specs.Limits.{last-stamp, most-open}
 use Rattle.meaning.specs.Numbers.{property-refusal}
 use Rattle.property.specs.Meant.{meant}
-use Rattle.matcher.proofs.Formed.{formed-length}
+use Rattle.table.proofs.Formed.{formed-length}
 use Rattle.session.specs.declared.Session.{Session}
 use Rattle.session.specs.Record.{count-of, latest-of, length-above}
 use Rattle.session.proofs.Range.{misformed, crowded, fallen, held-blind, late, too-long, range-tests}

@@ -1,7 +1,7 @@
 -- `session::lent::begin` meets its contract.
 use mathlib.Core.Path.{ap}
 use lib.ListN.{set}
-use Rattle.matcher.specs.declared.sets.Cut.{Cut}
+use Rattle.matcher.specs.declared.Cut.{Cut}
 use borrow.Author.Needs.{needs}
 use Rattle.session.proofs.lent.begin.Statement.{statement}
 use Rattle.session.proofs.lent.begin.Tie as tie

@@ -5,7 +5,7 @@ use mathlib.Core.Bool.{Bool, true, false, cond}
 use native.Mathlib.Omega.{arith}
 use Rattle.meaning.specs.Limits.{most-open}
 use Rattle.meaning.specs.Calls.{Call}
-use Rattle.matcher.proofs.Formed.{formed-bounds}
+use Rattle.table.proofs.Formed.{formed-bounds}
 use Rattle.cuts.specs.Steps.{line-of}
 use Rattle.cuts.specs.Arrays.{row, front-of}
 use Rattle.session.specs.declared.Session.{Session}

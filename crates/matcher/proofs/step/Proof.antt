@@ -1,0 +1,134 @@
+-- `matcher::step` meets its contract. The loop: what is left of the set, stepped, and what was gathered are together the step of the whole set.
+use borrow.Author.Needs.{needs}
+use Prim.Native.Nat.{ℕ, suc, _+_, _-_, _^_, _≤_, _<_}
+use mathlib.Core.Path.{_≡_, sym, ap, _∙_}
+use mathlib.Core.Bool.{Bool, _||_}
+use native.Mathlib.Omega.{arith}
+use lib.Pow.{pow-pos}
+use lib.Bits.{bitAnd}
+use lib.Count.{trailingZeros}
+use Rattle.laws.proofs.Bits.{bit-none, rest-less}
+use lib.ListN.{getD}
+use Rattle.laws.specs.Bits.{bit}
+use Rattle.matcher.specs.Sets.{stepped}
+use Rattle.matcher.proofs.SetStep.{lowest-le, turn, turn-lt, stepped-done}
+use Rattle.matcher.proofs.step.Statement.{statement}
+use Rattle.matcher.proofs.step.Tie as tie
+
+abbrev Inv-loop : tie.InvT-loop
+Inv-loop table at n mask rest₀ r₀ rest r = (rest ≤ mask) × (r < 2 ^ suc n) × ((j : ℕ) → stepped n (λ k. getD table (at + k) 0) (bit mask) j ≡ bit r j || stepped n (λ k. getD table (at + k) 0) (bit rest) j)
+
+abbrev μ-loop : tie.MeasureT-loop
+μ-loop table at n mask rest₀ r₀ rest r = rest
+
+loop-holds : tie.Need-loop-holds Inv-loop μ-loop
+loop-holds c = (search needs, pow-pos (suc (c .args .n)), λ j. ap (λ (b : Bool). b || stepped (c .args .n) (λ k. getD (c .args .table .now) (c .args .at + k) 0) (bit (c .args .mask)) j) (sym (bit-none j)))
+
+cast-k : tie.Need-cast-k Inv-loop μ-loop
+cast-k c =
+    let a = c .before .before .args in
+    let rest = c .before .loop .rest in
+    let r = c .before .loop .r in
+    let f : ℕ → ℕ = λ k. getD (a .table .now) (a .at + k) 0 in
+    let pos : 0 < rest = omega arith in
+    let small : rest < 2 ^ suc (a .n) = omega arith in
+    let few : a .n ≤ 32 = omega arith in
+    let k : trailingZeros 64 rest ≤ a .n = lowest-le (a .n) f rest r pos small few in
+    record { fits = omega arith }
+
+add-r : tie.Need-add-r Inv-loop μ-loop
+add-r c =
+    let a = c .before .before .args in
+    let rest = c .before .loop .rest in
+    let r = c .before .loop .r in
+    let f : ℕ → ℕ = λ k. getD (a .table .now) (a .at + k) 0 in
+    let pos : 0 < rest = omega arith in
+    let small : rest < 2 ^ suc (a .n) = omega arith in
+    let few : a .n ≤ 32 = omega arith in
+    let k : trailingZeros 64 rest ≤ a .n = lowest-le (a .n) f rest r pos small few in
+    record { fits = omega arith }
+
+element-copy-out-r : tie.Need-element-copy-out-r Inv-loop μ-loop
+element-copy-out-r c =
+    let a = c .before .before .args in
+    let rest = c .before .loop .rest in
+    let r = c .before .loop .r in
+    let f : ℕ → ℕ = λ k. getD (a .table .now) (a .at + k) 0 in
+    let pos : 0 < rest = omega arith in
+    let small : rest < 2 ^ suc (a .n) = omega arith in
+    let few : a .n ≤ 32 = omega arith in
+    let k : trailingZeros 64 rest ≤ a .n = lowest-le (a .n) f rest r pos small few in
+    omega arith
+
+cast-r : tie.Need-cast-r Inv-loop μ-loop
+cast-r c =
+    let a = c .before .before .before .args in
+    let rest = c .before .before .loop .rest in
+    let r = c .before .before .loop .r in
+    let f : ℕ → ℕ = λ k. getD (a .table .now) (a .at + k) 0 in
+    let pos : 0 < rest = omega arith in
+    let small : rest < 2 ^ suc (a .n) = omega arith in
+    let few : a .n ≤ 32 = omega arith in
+    let k : trailingZeros 64 rest ≤ a .n = lowest-le (a .n) f rest r pos small few in
+    let to : f (trailingZeros 64 rest) ≤ a .n = c .before .before .before .pre .1 (trailingZeros 64 rest) k in
+    record { fits = omega arith }
+
+shl-r : tie.Need-shl-r Inv-loop μ-loop
+shl-r c =
+    let a = c .before .before .before .args in
+    let rest = c .before .before .loop .rest in
+    let r = c .before .before .loop .r in
+    let f : ℕ → ℕ = λ k. getD (a .table .now) (a .at + k) 0 in
+    let pos : 0 < rest = omega arith in
+    let small : rest < 2 ^ suc (a .n) = omega arith in
+    let few : a .n ≤ 32 = omega arith in
+    let k : trailingZeros 64 rest ≤ a .n = lowest-le (a .n) f rest r pos small few in
+    let to : f (trailingZeros 64 rest) ≤ a .n = c .before .before .before .pre .1 (trailingZeros 64 rest) k in
+    omega arith
+
+sub-rest : tie.Need-sub-rest Inv-loop μ-loop
+sub-rest c = search needs
+
+loop-less : tie.Need-loop-less Inv-loop μ-loop
+loop-less c = rest-less (c .before .before .loop .rest) (omega arith)
+
+loop-again : tie.Need-loop-again Inv-loop μ-loop
+loop-again c =
+    let a = c .before .before .before .args in
+    let rest = c .before .before .loop .rest in
+    let r = c .before .before .loop .r in
+    let f : ℕ → ℕ = λ k. getD (a .table .now) (a .at + k) 0 in
+    let pos : 0 < rest = omega arith in
+    let small : rest < 2 ^ suc (a .n) = omega arith in
+    let few : a .n ≤ 32 = omega arith in
+    let k : trailingZeros 64 rest ≤ a .n = lowest-le (a .n) f rest r pos small few in
+    let to : f (trailingZeros 64 rest) ≤ a .n = c .before .before .before .pre .1 (trailingZeros 64 rest) k in
+    let less : bitAnd rest (rest - 1) < rest = rest-less rest pos in
+    (omega arith, turn-lt (a .n) f rest r pos small few to (c .before .before .loop .inv .1), λ j. c .before .before .loop .inv .2 j ∙ turn (a .n) f rest r pos small few to j)
+
+returns : tie.Need-returns Inv-loop μ-loop
+returns c =
+    let a = c .before .before .args in
+    let f : ℕ → ℕ = λ k. getD (a .table .now) (a .at + k) 0 in
+    let w = c .before .loop in (
+      (λ j.
+          sym (w .inv .2 j ∙ ap (λ (x : ℕ). bit (w .r) j || stepped (a .n) f (bit x) j) (c .loop-test .left) ∙ stepped-done (a .n) f (bit (w .r) j) j)),
+      w .inv .1,
+    )
+
+pub step-spec : {M : Type 1} → statement M
+step-spec =
+    tie.close
+    (tie.spec
+    Inv-loop
+    μ-loop
+    loop-holds
+    cast-k
+    add-r
+    element-copy-out-r
+    cast-r
+    shl-r
+    sub-rest
+    loop-less
+    loop-again
+    returns)

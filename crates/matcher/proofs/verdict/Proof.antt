@@ -1,0 +1,59 @@
+-- `matcher::verdict` meets its contract: by whether broken and some length, armed or not, are in the set.
+use Prim.Native.Nat.{ℕ, _/_, _%_, _≤_, _<_}
+use mathlib.Core.Path.{_≡_, refl, sym, ap, ap₂, _∙_}
+use mathlib.Core.Bool.{Bool, true, false, not, _||_}
+use native.Mathlib.Omega.{arith}
+use lib.Dec.{eqb}
+use borrow.Author.Tests.{lt-ltb, le-ltb}
+use Rattle.laws.specs.Bits.{bit}
+use Rattle.laws.proofs.Bits.{bit-zero}
+use Rattle.matcher.proofs.Words.{verdict-read}
+use Rattle.matcher.proofs.Moving.{some-test}
+use Rattle.matcher.proofs.verdict.Statement.{statement}
+use Rattle.matcher.proofs.verdict.Tie as tie
+
+-- the last digit of the marks is that of broken
+even : (m : ℕ) → m % 2 ≡ 0 → false ≡ bit m 0
+even m e = sym (bit-zero m ∙ ap (λ (x : ℕ). eqb x 1) e)
+
+odd : (m : ℕ) → (m % 2 ≡ 0 → ⊥) → true ≡ bit m 0
+odd m e = sym (bit-zero m ∙ ap (λ (x : ℕ). eqb x 1) (let q : m % 2 ≡ 1 = omega arith in q))
+
+there : (m : ℕ) → 0 < m → true ≡ not (eqb m 0)
+there m h = sym (lt-ltb 0 m h) ∙ some-test m
+
+not-there : (m : ℕ) → m ≤ 0 → false ≡ not (eqb m 0)
+not-there m h = sym (le-ltb 0 m h) ∙ some-test m
+
+or-there : (a : Bool) → a || true ≡ true
+or-there true = refl
+or-there false = refl
+
+returns : tie.Need-returns
+returns c =
+    let cut = c .before .before .args .cut in
+    λ p h. verdict-read p cut h false (not (eqb (cut .mask) 0) || not (eqb (cut .marks / 2) 0)) (even (cut .marks) (c .if1 .taken)) refl
+
+returns-2 : tie.Need-returns-2
+returns-2 c =
+    let cut = c .before .before .before .before .args .cut in
+    λ p h.
+    verdict-read p cut h true true (odd (cut .marks) (c .before .before .if1 .left))
+    (ap (λ (b : Bool). b || not (eqb (cut .marks / 2) 0)) (there (cut .mask) (c .if2 .taken)))
+
+returns-3 : tie.Need-returns-3
+returns-3 c =
+    let cut = c .before .before .before .before .before .before .args .cut in
+    λ p h.
+    verdict-read p cut h true true (odd (cut .marks) (c .before .before .before .before .if1 .left))
+    (sym (or-there (not (eqb (cut .mask) 0))) ∙ ap (λ (b : Bool). not (eqb (cut .mask) 0) || b) (there (cut .marks / 2) (c .if3 .taken)))
+
+returns-4 : tie.Need-returns-4
+returns-4 c =
+    let cut = c .before .before .before .before .before .before .args .cut in
+    λ p h.
+    verdict-read p cut h true false (odd (cut .marks) (c .before .before .before .before .if1 .left))
+    (ap₂ (λ (a b : Bool). a || b) (not-there (cut .mask) (c .before .before .if2 .left)) (not-there (cut .marks / 2) (c .if3 .left)))
+
+pub verdict-spec : {M : Type 1} → statement M
+verdict-spec = tie.close (tie.spec returns returns-2 returns-3 returns-4)

@@ -1,0 +1,4 @@
+pub mod Recursion
+pub mod TableRows
+pub mod Formed
+pub mod Falling

@@ -1,0 +1,84 @@
+-- `table::ends` meets its contract. The loop compares from the end: what is left to compare decides the answer.
+use borrow.Author.Needs.{needs}
+use Prim.Native.Nat.{_≤_}
+use mathlib.Core.Path.{_≡_, sym, _∙_}
+use Rattle.table.proofs.Recursion.{ends-mismatch, ends-match, ends-none}
+use Rattle.meaning.specs.Matcher.{ends}
+use Rattle.table.specs.Table.{action-at}
+use Rattle.table.proofs.ends.Statement.{statement}
+use Rattle.table.proofs.ends.Tie as tie
+
+abbrev Inv-loop : tie.InvT-loop
+Inv-loop output number j k i₀ l₀ i l = (i ≤ l) × (l ≤ 32) × (ends (action-at output number) j k ≡ ends (action-at output number) i l)
+
+abbrev μ-loop : tie.MeasureT-loop
+μ-loop output number j k i₀ l₀ i l = i
+
+loop-holds : tie.Need-loop-holds Inv-loop μ-loop
+loop-holds c = search needs
+
+sub-i : tie.Need-sub-i Inv-loop μ-loop
+sub-i c = search needs
+
+sub-l : tie.Need-sub-l Inv-loop μ-loop
+sub-l c = search needs
+
+element-copy-out-same : tie.Need-element-copy-out-same Inv-loop μ-loop
+element-copy-out-same c = search needs
+
+element-copy-out-same-2 : tie.Need-element-copy-out-same-2 Inv-loop μ-loop
+element-copy-out-same-2 c = search needs
+
+element-copy-out-same-3 : tie.Need-element-copy-out-same-3 Inv-loop μ-loop
+element-copy-out-same-3 c = search needs
+
+element-copy-out-same-4 : tie.Need-element-copy-out-same-4 Inv-loop μ-loop
+element-copy-out-same-4 c = search needs
+
+same-requires : tie.Need-same-requires Inv-loop μ-loop
+same-requires c κs = search needs
+
+returns : tie.Need-returns Inv-loop μ-loop
+returns c =
+    let a = c .before .before .before .before .before .before .before .before .args in
+    let w = c .before .before .before .before .before .before .before .loop in
+    ends-mismatch (action-at (a .output .now) (a .number .now)) (w .i) (w .l) (search needs) (w .inv .0) (c .before .same .result) (c .before .same .ensures) (c .if1 .taken)
+    ∙ sym (w .inv .2)
+
+loop-less : tie.Need-loop-less Inv-loop μ-loop
+loop-less c = search needs
+
+loop-again : tie.Need-loop-again Inv-loop μ-loop
+loop-again c =
+    let a = c .before .before .before .before .before .before .before .before .args in
+    let w = c .before .before .before .before .before .before .before .loop in (
+      search needs,
+      search needs,
+      w .inv .2
+          ∙ ends-match (action-at (a .output .now) (a .number .now)) (w .i) (w .l) (search needs) (w .inv .0) (c .before .same .result) (c .before .same .ensures) (c .if1 .left),
+    )
+
+returns-2 : tie.Need-returns-2 Inv-loop μ-loop
+returns-2 c =
+    let a = c .before .before .args in
+    let w = c .before .loop in
+    ends-none (action-at (a .output .now) (a .number .now)) (w .i) (w .l) (search needs) ∙ sym (w .inv .2)
+
+pub ends-spec : {M : Type 1} → statement M
+ends-spec =
+    tie.close
+    (tie.spec
+    Inv-loop
+    μ-loop
+    loop-holds
+    sub-i
+    sub-l
+    element-copy-out-same
+    element-copy-out-same-2
+    element-copy-out-same-3
+    element-copy-out-same-4
+    same-requires
+    returns
+    loop-less
+    loop-again
+    returns-2)

@@ -1,0 +1,48 @@
+-- `table::goes_on` meets its contract: each way out is one of the three tests of `goes-on`.
+use borrow.Author.Needs.{needs}
+use Rattle.property.specs.Meant.{action-of}
+use Rattle.table.specs.Table.{action-at}
+use Rattle.table.proofs.Recursion.{goes-on-there, goes-on-other, goes-on-past}
+use Rattle.table.proofs.goes_on.Statement.{statement}
+use Rattle.table.proofs.goes_on.Tie as tie
+
+element-copy-out-same : tie.Need-element-copy-out-same
+element-copy-out-same c = search needs
+
+element-copy-out-same-2 : tie.Need-element-copy-out-same-2
+element-copy-out-same-2 c = search needs
+
+same-requires : tie.Need-same-requires
+same-requires c κs = search needs
+
+ends-requires : tie.Need-ends-requires
+ends-requires c κs = search needs
+
+returns : tie.Need-returns
+returns c =
+    let a = c .before .before .before .before .before .before .args in
+    goes-on-there (action-at (a .output .now) (a .number .now)) (a .n) (a .k) (a .j) (action-of (a .out) (a .act))
+    (c .before .before .before .before .before .if1 .taken) (c .before .before .same .result) (c .ends .result) (c .before .before .same .ensures) (c .before .if2 .taken) (c .ends .ensures)
+
+returns-2 : tie.Need-returns-2
+returns-2 c =
+    let a = c .before .before .before .before .before .args in
+    goes-on-other (action-at (a .output .now) (a .number .now)) (a .n) (a .k) (a .j) (action-of (a .out) (a .act))
+    (c .before .before .before .before .if1 .taken) (c .before .same .result) (c .before .same .ensures) (c .if2 .left)
+
+returns-3 : tie.Need-returns-3
+returns-3 c =
+    let a = c .before .args in
+    goes-on-past (action-at (a .output .now) (a .number .now)) (a .n) (a .k) (a .j) (action-of (a .out) (a .act)) (c .if1 .left)
+
+pub goes-on-spec : {M : Type 1} → statement M
+goes-on-spec =
+    tie.close
+    (tie.spec
+    element-copy-out-same
+    element-copy-out-same-2
+    same-requires
+    ends-requires
+    returns
+    returns-2
+    returns-3)

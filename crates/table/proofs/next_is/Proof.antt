@@ -1,0 +1,33 @@
+-- `table::next_is` meets its contract: the first k always end the first k.
+use Rattle.property.specs.Meant.{action-of}
+use Rattle.table.specs.Table.{action-at}
+use Rattle.table.proofs.Recursion.{goes-on-past}
+use Rattle.table.proofs.Falling.{next-there}
+use borrow.Author.Needs.{needs}
+use Rattle.table.proofs.next_is.Statement.{statement}
+use Rattle.table.proofs.next_is.Tie as tie
+
+element-copy-out-same : tie.Need-element-copy-out-same
+element-copy-out-same c = search needs
+
+element-copy-out-same-2 : tie.Need-element-copy-out-same-2
+element-copy-out-same-2 c = search needs
+
+same-requires : tie.Need-same-requires
+same-requires c κs = search needs
+
+returns : tie.Need-returns
+returns c =
+    let a = c .before .before .before .before .args in
+    next-there (action-at (a .output .now) (a .number .now)) (a .n) (action-of (a .out) (a .act)) (a .k)
+    (c .before .before .before .if1 .taken) (c .same .result) (c .same .ensures)
+
+returns-2 : tie.Need-returns-2
+returns-2 c =
+    let a = c .before .args in
+    goes-on-past (action-at (a .output .now) (a .number .now)) (a .n) (a .k) (a .k) (action-of (a .out) (a .act)) (c .if1 .left)
+
+pub next-is-spec : {M : Type 1} → statement M
+next-is-spec =
+    tie.close
+    (tie.spec element-copy-out-same element-copy-out-same-2 same-requires returns returns-2)

@@ -1,0 +1,92 @@
+-- `table::shorter` meets its contract. The loop: the lengths up to k have their longest shorter one.
+use borrow.Author.Needs.{needs}
+use Prim.Native.Nat.{ℕ, _+_, _-_, _≤_, _<_}
+use mathlib.Core.Path.{_≡_, refl, sym, subst, _∙_}
+use native.Mathlib.Omega.{arith}
+use lib.ListN.{length, getD, replicate, length-set}
+use Rattle.table.specs.Table.{action-at, Shorter}
+use Rattle.table.proofs.Falling.{shorter-found, shorter-one, shorter-more}
+use Rattle.table.proofs.Recursion.{fall-back-le}
+use Rattle.table.proofs.shorter.Statement.{statement}
+use Rattle.table.proofs.shorter.Tie as tie
+
+abbrev Inv-loop : tie.InvT-loop
+Inv-loop output number n falls₀ k₀ falls k = (1 ≤ k) × (length falls ≡ 33) × ((j : ℕ) → 0 < j → j ≤ k → Shorter (action-at output number) j (getD falls j 0))
+
+abbrev μ-loop : tie.MeasureT-loop
+μ-loop output number n falls₀ k₀ falls k = n - k
+
+loop-holds : tie.Need-loop-holds Inv-loop μ-loop
+loop-holds c = (
+  search needs,
+  refl,
+  λ j p q.
+      let a = c .args in
+      let s = action-at (a .output .now) (a .number .now) in
+      subst (λ (x : ℕ). Shorter s x (getD (replicate {A = ℕ} 33 0) x 0)) (let e : 1 ≡ j = omega arith in e) (shorter-one s (a .n)),
+)
+
+element-copy-out-fall-back : tie.Need-element-copy-out-fall-back Inv-loop μ-loop
+element-copy-out-fall-back c = search needs
+
+element-copy-out-fall-back-2 : tie.Need-element-copy-out-fall-back-2 Inv-loop μ-loop
+element-copy-out-fall-back-2 c = search needs
+
+sub-fall-back : tie.Need-sub-fall-back Inv-loop μ-loop
+sub-fall-back c = search needs
+
+fall-back-requires : tie.Need-fall-back-requires Inv-loop μ-loop
+fall-back-requires c κs = search needs
+
+cast-falls : tie.Need-cast-falls Inv-loop μ-loop
+cast-falls c =
+    let a = c .before .before .before .before .before .args in
+    let k = c .before .before .before .before .loop .k in
+    let s = action-at (a .output .now) (a .number .now) in
+    record { fits = omega (arith, c .fall-back .ensures, fall-back-le s (a .n) k (k - 1) (s k)) }
+
+add-falls : tie.Need-add-falls Inv-loop μ-loop
+add-falls c = search needs
+
+array-write-falls : tie.Need-array-write-falls Inv-loop μ-loop
+array-write-falls c = search needs
+
+add-k : tie.Need-add-k Inv-loop μ-loop
+add-k c = search needs
+
+loop-less : tie.Need-loop-less Inv-loop μ-loop
+loop-less c = search needs
+
+loop-again : tie.Need-loop-again Inv-loop μ-loop
+loop-again c =
+    let a = c .before .before .before .before .before .args in
+    let s = action-at (a .output .now) (a .number .now) in
+    let w = c .before .before .before .before .loop in (
+      search needs,
+      length-set (w .falls) (w .k + 1) (c .fall-back .result) ∙ w .inv .1,
+      shorter-more s (w .falls) (w .k) (c .fall-back .result) (omega (arith, w .inv .1)) (w .inv .2)
+          (subst (λ (x : ℕ). Shorter s (w .k + 1) x) (sym (c .fall-back .ensures))
+          (shorter-found s (a .n) (w .k) (omega arith) (omega arith))),
+    )
+
+returns : tie.Need-returns Inv-loop μ-loop
+returns c = λ k p q. c .before .loop .inv .2 k p (omega arith)
+
+pub shorter-spec : {M : Type 1} → statement M
+shorter-spec =
+    tie.close
+    (tie.spec
+    Inv-loop
+    μ-loop
+    loop-holds
+    element-copy-out-fall-back
+    element-copy-out-fall-back-2
+    sub-fall-back
+    fall-back-requires
+    cast-falls
+    add-falls
+    array-write-falls
+    add-k
+    loop-less
+    loop-again
+    returns)
