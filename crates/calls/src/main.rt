@@ -1,7 +1,7 @@
 // Reads a packed script of calls from standard input and prints what each call gives back (docs/CALLS.md).
 use script::arguments;
 use script::text;
-use session::Session;
+use session_record::Session;
 
 // What a turn leaves: the bytes of the script that are left, and the session.
 struct After {

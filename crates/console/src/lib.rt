@@ -4,8 +4,8 @@ mod forms;
 use script::arguments;
 use script::text;
 use script::text::Page;
-use session::Session;
-use session::Stepped;
+use session_record::Session;
+use session_record::Stepped;
 use walk::Stop;
 use walk::Walked;
 

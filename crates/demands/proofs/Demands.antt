@@ -31,11 +31,11 @@ use Rattle.record_form.specs.Record
 use Rattle.record_form.specs.Trace.{Entry, kind-of, entry-call, trace-form}
 use Rattle.cuts.specs.Steps.{line-of, fresh-by, refusal-by}
 use Rattle.fields.specs.Fields.{field}
-use Rattle.session.specs.declared.Session.{Session}
-use Rattle.session.specs.Record.{record-of, cuts-of, out-of-range}
-use Rattle.session.specs.Step.{answer-of, refusal-of, fresh-of, stepped-of, no-session}
-use Rattle.session.proofs.Steps.{step-refused, answer-refusal, fresh-refused, fresh-taken}
-use Rattle.session.proofs.Running.{running-answer}
+use Rattle.session_record.specs.declared.Session.{Session}
+use Rattle.session_record.specs.Record.{record-of, cuts-of, out-of-range}
+use Rattle.session_record.specs.Step.{answer-of, refusal-of, fresh-of, stepped-of, no-session}
+use Rattle.session_record.proofs.Steps.{step-refused, answer-refusal, fresh-refused, fresh-taken}
+use Rattle.session_record.proofs.Running.{running-answer}
 use Rattle.kept.specs.Event.{call-of}
 use Rattle.kept.specs.declared.Event.the-variants as Kept
 use Rattle.walk.specs.Walk.{budget-of, walk-of}

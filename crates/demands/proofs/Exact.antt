@@ -16,8 +16,8 @@ use Rattle.meaning.proofs.Histories.{blind-until, history-verdict, taken-append
 use Rattle.property.specs.Meant.{meant}
 use Rattle.property.specs.declared.Property.{Property}
 use Rattle.cuts.specs.Steps.{verdict-by, answer-by}
-use Rattle.session.specs.Step.{stepped-of, standing}
-use Rattle.session.proofs.Running.{running-answer}
+use Rattle.session_record.specs.Step.{stepped-of, standing}
+use Rattle.session_record.proofs.Running.{running-answer}
 use Rattle.demands.proofs.Running.{running, seen, running-stands, running-property, seen-taken}
 
 module _ (q : Words.Property) (good : property-refusal q ≡ 0) where

@@ -9,9 +9,9 @@ use Rattle.meaning.specs.Numbers.{property-refusal}
 use Rattle.meaning.proofs.Refusals.{unless-kept}
 use Rattle.property.specs.Meant.{meant}
 use Rattle.property.specs.declared.Property.{Property}
-use Rattle.session.specs.declared.Stepped.{Stepped}
-use Rattle.session.specs.Step.{fresh-of}
-use Rattle.session.proofs.Steps.{fresh-refused, fresh-taken}
+use Rattle.session_record.specs.declared.Stepped.{Stepped}
+use Rattle.session_record.specs.Step.{fresh-of}
+use Rattle.session_record.proofs.Steps.{fresh-refused, fresh-taken}
 use Rattle.record_form.specs.Record.{Bytes, record-size, record-answer, read-refusal, bytes-read, write-refusal, written, answered}
 use Rattle.record_form.specs.Record
 use Rattle.record_form.specs.Trace.{Entry, kind-of, action-of, stamp-of}

@@ -22,10 +22,10 @@ use Rattle.property_form.proofs.RoundTrip.{form-read}
 use Rattle.record_form.specs.Record.{Bytes}
 use Rattle.record_form.specs.Trace.{Entry, trace-form, TakenAs}
 use Rattle.record_form.proofs.Trace.{trace-writes-back}
-use Rattle.session.specs.declared.Session.{Session}
-use Rattle.session.specs.Record.{latest-of, record-of}
-use Rattle.session.specs.Step.{standing, stepped-through}
-use Rattle.session.proofs.Running.{fresh-record}
+use Rattle.session_record.specs.declared.Session.{Session}
+use Rattle.session_record.specs.Record.{latest-of, record-of}
+use Rattle.session_record.specs.Step.{standing, stepped-through}
+use Rattle.session_record.proofs.Running.{fresh-record}
 use Rattle.cuts.specs.Steps.{fresh-by}
 use Rattle.walk.specs.declared.Stop.{Stop}
 use Rattle.walk.specs.declared.Stop.the-variants.{Budget, End, Refused}

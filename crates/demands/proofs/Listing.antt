@@ -20,10 +20,10 @@ use Rattle.record_form.specs.Record
 use Rattle.record_form.specs.ReadAs.{ReadAs, read-as}
 use Rattle.record_form.specs.Trace.{Entry, kind-of, action-of, stamp-of, entry-call}
 use Rattle.record_form.proofs.Reading.{is-taken, refusal-of}
-use Rattle.session.specs.declared.Session.{Session}
-use Rattle.session.specs.Record.{latest-of, count-of, out-of-range}
-use Rattle.session.specs.Step.{standing, fresh-of, stepped-of, stepped-through}
-use Rattle.session.proofs.Running.{running-record}
+use Rattle.session_record.specs.declared.Session.{Session}
+use Rattle.session_record.specs.Record.{latest-of, count-of, out-of-range}
+use Rattle.session_record.specs.Step.{standing, fresh-of, stepped-of, stepped-through}
+use Rattle.session_record.proofs.Running.{running-record}
 use Rattle.walk.specs.declared.Stop.the-variants.{Refused}
 use Rattle.walk.specs.Walk.{One, one-call, one-read, one-of, stopped, walked-by, walk-on, in-numbers, walk-of}
 use Rattle.printout.specs.Text.{line-text, end-text, stop-text}

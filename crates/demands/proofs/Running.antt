@@ -15,13 +15,13 @@ use Rattle.meaning.proofs.Calls.{Agrees, open-run, blind, grown-agrees, refusal
 use Rattle.property.specs.Meant.{meant}
 use Rattle.property.specs.declared.Property.{Property}
 use Rattle.cuts.specs.Steps.{refusal-by}
-use Rattle.session.specs.declared.Session.{Session}
-use Rattle.session.specs.Record.{latest-of, cuts-of, out-of-range}
-use Rattle.session.specs.Step.{fresh-of, stepped-of, stepped-through}
-use Rattle.session.proofs.Fit.{in-range}
-use Rattle.session.proofs.Steps.{answer-refusal, refusal-fits}
-use Rattle.session.proofs.Grown.{grown-stands, grown-fit}
-use Rattle.session.proofs.Running.{running-record}
+use Rattle.session_record.specs.declared.Session.{Session}
+use Rattle.session_record.specs.Record.{latest-of, cuts-of, out-of-range}
+use Rattle.session_record.specs.Step.{fresh-of, stepped-of, stepped-through}
+use Rattle.session_record.proofs.Fit.{in-range}
+use Rattle.session_record.proofs.Steps.{answer-refusal, refusal-fits}
+use Rattle.session_record.proofs.Grown.{grown-stands, grown-fit}
+use Rattle.session_record.proofs.Running.{running-record}
 use Rattle.demands.specs.Traces.{TakenOneByOne}
 
 -- one more call behind others

@@ -5,8 +5,8 @@ use Rattle.meaning.specs.Numbers.{property-refusal}
 use Rattle.meaning.specs.Calls.{Call}
 use Rattle.property.specs.Meant.{meant}
 use Rattle.property.specs.declared.Property.{Property}
-use Rattle.session.specs.declared.Session.{Session}
-use Rattle.session.specs.Step.{fresh-of, stepped-of, stepped-through}
+use Rattle.session_record.specs.declared.Session.{Session}
+use Rattle.session_record.specs.Step.{fresh-of, stepped-of, stepped-through}
 use Rattle.demands.specs.Traces.{calls-of}
 use Rattle.demands.specs.Uses.{Use, session-after, session-through}
 use Rattle.demands.proofs.Running.{running, running-range, running-next}

@@ -21,11 +21,11 @@ use Rattle.record_form.specs.declared.RecordRead.the-variants.{Input, Output, G
 use Rattle.record_form.proofs.Reading.{refusal-of}
 use Rattle.record_form.proofs.ReadAs.{read-case, always-read, end-stamp, refused-given}
 use Rattle.cuts.specs.Steps.{front-after, front-fresh, front-none, taken-by}
-use Rattle.session.specs.declared.Session.{Session}
-use Rattle.session.specs.declared.Stepped.{Stepped}
-use Rattle.session.specs.Record.{latest-of, cuts-of, out-of-range}
-use Rattle.session.specs.Step.{stepped-of, stepped-through}
-use Rattle.session.proofs.Steps.{step-taken, answer-refusal}
+use Rattle.session_record.specs.declared.Session.{Session}
+use Rattle.session_record.specs.declared.Stepped.{Stepped}
+use Rattle.session_record.specs.Record.{latest-of, cuts-of, out-of-range}
+use Rattle.session_record.specs.Step.{stepped-of, stepped-through}
+use Rattle.session_record.proofs.Steps.{step-taken, answer-refusal}
 use Rattle.walk.specs.declared.Stop.{Stop}
 use Rattle.walk.specs.declared.Stop.the-variants.{End, Refused}
 use Rattle.walk.specs.declared.Walked.{Walked}

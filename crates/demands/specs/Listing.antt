@@ -9,8 +9,8 @@ use Rattle.meaning.specs.Calls.{Call, fresh, watched, Standing, open-of}
 use Rattle.record_form.specs.Record.{record-answer}
 use Rattle.record_form.specs.Record
 use Rattle.record_form.specs.Trace.{Entry, kind-of, action-of, stamp-of, entry-call}
-use Rattle.session.specs.declared.Session.{Session}
-use Rattle.session.specs.Record.{latest-of}
+use Rattle.session_record.specs.declared.Session.{Session}
+use Rattle.session_record.specs.Record.{latest-of}
 use Rattle.printout.specs.Text.{line-text, end-text, stop-text}
 use Rattle.printed.specs.Printed.{one-after}
 use Rattle.demands.specs.Traces.{RefusedWith}

@@ -12,9 +12,9 @@ use Rattle.record_form.specs.Record.{record-size, record-answer, read-refusal, 
 use Rattle.record_form.specs.Record
 use Rattle.record_form.specs.ReadAs.{ReadAs, read-as}
 use Rattle.record_form.specs.Trace.{Entry, kind-of, action-of, stamp-of, entry-call}
-use Rattle.session.specs.declared.Session.{Session}
-use Rattle.session.specs.Record.{latest-of}
-use Rattle.session.specs.Step.{stepped-of}
+use Rattle.session_record.specs.declared.Session.{Session}
+use Rattle.session_record.specs.Record.{latest-of}
+use Rattle.session_record.specs.Step.{stepped-of}
 
 -- The record of a call: a line is an input or an output with its stamp, a gap mark has its stamp.
 abbrev pub action-entry : Action → ℕ → Entry

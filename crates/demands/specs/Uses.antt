@@ -2,8 +2,8 @@
 use Prim.Native.Nat.{ℕ}
 use mathlib.Core.List.{List, [], _∷_}
 use Rattle.meaning.specs.Calls.{Call}
-use Rattle.session.specs.declared.Session.{Session}
-use Rattle.session.specs.Step.{stepped-of}
+use Rattle.session_record.specs.declared.Session.{Session}
+use Rattle.session_record.specs.Step.{stepped-of}
 use Rattle.walk.specs.Walk.{walk-of}
 
 -- A line or a gap mark, or a walk over some bytes with a budget.

@@ -1,8 +1,8 @@
 -- The promise of `step` fixes the answer and the record afterwards, refused or not: two results allowed by it are equal.
 use mathlib.Core.Path.{_≡_, sym, _∙_}
-use Rattle.session.specs.Step.{stepped-of}
-use Rattle.session.specs.declared.Session.{Session}
-use Rattle.session.specs.declared.Answer.{Answer}
+use Rattle.session_record.specs.Step.{stepped-of}
+use Rattle.session_record.specs.declared.Session.{Session}
+use Rattle.session_record.specs.declared.Answer.{Answer}
 use Rattle.kept.specs.Event.{call-of}
 use Rattle.kept.specs.declared.Event.{Event}
 

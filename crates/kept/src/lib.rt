@@ -1,10 +1,10 @@
 // "The session record stays with the caller": the proved step by value, and one thin function that stores what it gives.
 ghost use mathlib.Core.Path.{_≡_};
-ghost use Rattle.session.specs.Step.{stepped-of};
+ghost use Rattle.session_record.specs.Step.{stepped-of};
 ghost use Rattle.kept.specs.Event.{call-of};
-use session::Answer;
-use session::Session;
-use session::Stepped;
+use session_record::Answer;
+use session_record::Session;
+use session_record::Stepped;
 
 // One event of a trace: a line (an output or an input, the number of its action, its stamp) or a gap mark at a stamp.
 pub enum Event {

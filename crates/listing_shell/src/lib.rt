@@ -7,14 +7,14 @@ ghost use lib.ListN.{length};
 ghost use Rattle.io.specs.Counts.{Counts};
 ghost use Rattle.table.specs.Table.{IsTable};
 ghost use Rattle.printout.specs.Text.{room};
-ghost use Rattle.session.specs.Lent.{in-arrays, Ready};
+ghost use Rattle.session_record.specs.Lent.{in-arrays, Ready};
 use held::Status;
 use libc::STDOUT_FILENO;
 use printed::Printed;
 use printed::lent::Added;
 use printout::Text;
 use property::Property;
-use session::Session;
+use session_record::Session;
 
 fn write_front(bytes: &[u8], len: usize) -> bool
     requires { ⌜ len ≤ length (now bytes) ⌝ }

@@ -9,6 +9,7 @@ use lib.ListN.{getD}
 use lib.Dec.{eqb, ltb}
 use lib.Bits.{bitOr}
 use borrow.Author.Tests.{eqb-true, eqb-false, lt-ltb, le-ltb}
+use Rattle.property.proofs.Refusal.{taken-bounds}
 use Rattle.meaning.specs.Words.{Line}
 use Rattle.meaning.specs.Matcher.{some-to, is-input, outside, moved}
 use Rattle.meaning.specs.Numbers.{property-refusal}
@@ -19,7 +20,6 @@ use Rattle.property.specs.declared.Property.{Property}
 use Rattle.matcher.specs.declared.Cut.{Cut}
 use Rattle.matcher.specs.Sets.{set-of, Fits, stepped, arranged, Arranged, Moved}
 use Rattle.table.specs.Table.{row-of, IsTable}
-use Rattle.table.proofs.Formed.{formed-length}
 use Rattle.table.proofs.TableRows.{row-le}
 use Rattle.matcher.proofs.Moves.{entry-le, moved-input, moved-allowed, moved-outside}
 use Rattle.matcher.proofs.Words.{fits-parts, parts-fit, armed-lt, armed-is, some-in-mask, bit-with, lowest-digit}
@@ -42,7 +42,7 @@ module _ (p : Property) (formed : property-refusal (meant p) ≡ 0) (table : Lis
   pub step-asks : (m : ℕ) → m < 2 ^ suc (p .n)
       → ((p .n ≤ 32) × (at ≤ 4224) × (m < 2 ^ suc (p .n))) × ((k : ℕ) → k ≤ p .n → getD table (at + k) 0 ≤ p .n)
   step-asks m h =
-      ((formed-length p formed .1, omega (arith, row, row-le out act), h), entry-le p table is out act at row)
+      ((taken-bounds p formed .most, omega (arith, row, row-le out act), h), entry-le p table is out act at row)
 
   steps-is : (before after : ℕ) → Steps before after → bit after ≡ stepped (p .n) (λ k. getD table (at + k) 0) (bit before)
   steps-is before after e = fun-ext e

@@ -11,6 +11,7 @@ use lib.Pow.{pow-mono, pow-pos}
 use lib.Bits.{bitOr, or-lt}
 use lib.Count.{trailingZeros}
 use borrow.Author.Tests.{eqb-true, eqb-false, lt-leb, ltb-true, ltb-false, leb-true, leb-false, lt-ltb, le-ltb}
+use Rattle.property.proofs.Refusal.{taken-bounds}
 use Rattle.meaning.specs.Words.{Line}
 use Rattle.meaning.specs.Words
 use Rattle.meaning.specs.Node.{verdict-number}
@@ -28,7 +29,6 @@ use Rattle.property.specs.declared.Property.{Property}
 use Rattle.matcher.specs.declared.Cut.{Cut}
 use Rattle.table.specs.Table.{action-at}
 use Rattle.matcher.specs.Sets.{set-of, marked, cut-of, stray, Fits, set-verdict, Short, arranged, Arranged}
-use Rattle.table.proofs.Formed.{formed-length}
 use Rattle.matcher.proofs.Moves.{below-whole, whole-alone}
 
 -- ---- words in their range
@@ -65,7 +65,7 @@ low-mask (suc n) (suc w) f l none = go (f zero) (low-mask n w (λ k. f (suc k)) 
 
 module _ (p : Property) (formed : property-refusal (meant p) ≡ 0) where
   few : p .n ≤ 32
-  few = formed-length p formed .1
+  few = taken-bounds p formed .most
 
   wide : 2 ^ suc (p .n) ≤ 2 ^ 64
   wide = pow-mono {i = suc (p .n)} {j = 64} (omega (arith, few))

@@ -2,8 +2,8 @@
 use Prim.Native.Nat.{ℕ, zero, suc}
 use mathlib.Core.List.{List}
 use Rattle.property_form.specs.Read.{read}
-use Rattle.session.specs.declared.Session.{Session}
-use Rattle.session.specs.Step.{fresh-of}
+use Rattle.session_record.specs.declared.Session.{Session}
+use Rattle.session_record.specs.Step.{fresh-of}
 use Rattle.walk.specs.Walk.{walk-of}
 
 -- The number of records that the last of so many walks took.

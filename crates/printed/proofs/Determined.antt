@@ -4,7 +4,7 @@ use mathlib.Core.Path.{_≡_, sym, _∙_}
 use mathlib.Core.List.{List, [], _∷_}
 use Rattle.property_form.specs.Form.{form-size}
 use Rattle.property_form.specs.Read.{length-read}
-use Rattle.session.specs.declared.Session.{Session}
+use Rattle.session_record.specs.declared.Session.{Session}
 use Rattle.printed.specs.declared.Printed.{Printed}
 use Rattle.printed.specs.Printed.{printed-of, begun-of}
 

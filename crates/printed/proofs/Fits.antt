@@ -6,8 +6,8 @@ use mathlib.Core.List.{List}
 use native.Mathlib.Omega.{arith}
 use lib.ListN.{length}
 use Rattle.meaning.specs.Calls.{Call}
-use Rattle.session.specs.declared.Session.{Session}
-use Rattle.session.specs.Record.{out-of-range}
+use Rattle.session_record.specs.declared.Session.{Session}
+use Rattle.session_record.specs.Record.{out-of-range}
 use Rattle.property_form.specs.Read.{read}
 use Rattle.walk.specs.Walk.{One, one-of}
 use Rattle.printout.specs.Text.{room, stop-text}

@@ -12,12 +12,12 @@ use Rattle.record_form.specs.declared.RecordRead.the-variants.{End, Refused}
 use Rattle.held.specs.declared.Status.{Status}
 use Rattle.cuts.specs.Arrays.{number-of}
 use Rattle.cuts.specs.Steps.{line-of}
-use Rattle.session.specs.declared.Session.{Session}
-use Rattle.session.specs.declared.Stepped.{Stepped}
-use Rattle.session.specs.declared.lent.Told.{Told}
-use Rattle.session.specs.Record.{latest-of, out-of-range}
-use Rattle.session.specs.Step.{stepped-of}
-use Rattle.session.specs.Lent.{Ready, Advanced}
+use Rattle.session_record.specs.declared.Session.{Session}
+use Rattle.session_record.specs.declared.Stepped.{Stepped}
+use Rattle.session_record.specs.declared.Told.{Told}
+use Rattle.session_record.specs.Record.{latest-of, out-of-range}
+use Rattle.session_record.specs.Step.{stepped-of}
+use Rattle.session_record.specs.Lent.{Ready, Advanced}
 use Rattle.walk.specs.Walk.{one-call, try-call, one-read, one-of}
 use Rattle.walk.proofs.Dids.{refused-stays, one-known}
 use Rattle.printout.specs.Text.{line-text, end-text, stop-text, text-of}

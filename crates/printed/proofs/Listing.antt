@@ -14,9 +14,9 @@ use Rattle.fields.specs.Fields.{field}
 use Rattle.fields.proofs.Packed.{field-append}
 use Rattle.record_form.specs.Record.{RecordAnswer, record-size, record-answer, read-refusal, fields-refusal, answered, taken}
 use Rattle.record_form.specs.ReadAs.{ReadAs, read-as}
-use Rattle.session.specs.declared.Session.{Session}
-use Rattle.session.specs.Record.{latest-of, out-of-range}
-use Rattle.session.specs.Step.{stepped-of}
+use Rattle.session_record.specs.declared.Session.{Session}
+use Rattle.session_record.specs.Record.{latest-of, out-of-range}
+use Rattle.session_record.specs.Step.{stepped-of}
 use Rattle.walk.specs.Walk.{One, one-call, one-read}
 use Rattle.printout.specs.Text.{end-text, stop-text, text-of}
 use Rattle.printout.proofs.Fits.{text-held}

@@ -6,13 +6,13 @@ use Rattle.meaning.specs.Calls.{Call, Mark}
 use Rattle.meaning.specs.Matcher.{Lengths}
 use Rattle.meaning.specs.Step.{Cuts}
 use Rattle.cuts.specs.Steps.{verdict-by, taken-by}
-use Rattle.session.specs.declared.Session.{Session}
-use Rattle.session.specs.declared.Stepped.{Stepped}
-use Rattle.session.specs.Record.{count-of, cuts-of, record-of}
-use Rattle.session.specs.Step.{refusal-of, stepped-of, standing}
-use Rattle.session.proofs.Range.{ranged}
-use Rattle.session.proofs.Fit.{cuts-back}
-use Rattle.session.proofs.Steps.{answer-refusal, step-taken, taken-fits, step-fit}
+use Rattle.session_record.specs.declared.Session.{Session}
+use Rattle.session_record.specs.declared.Stepped.{Stepped}
+use Rattle.session_record.specs.Record.{count-of, cuts-of, record-of}
+use Rattle.session_record.specs.Step.{refusal-of, stepped-of, standing}
+use Rattle.session_record.proofs.Range.{ranged}
+use Rattle.session_record.proofs.Fit.{cuts-back}
+use Rattle.session_record.proofs.Steps.{answer-refusal, step-taken, taken-fits, step-fit}
 
 -- After a line: its answer has both.
 pub record AsAnswered (r : Stepped) : Type 0 where

@@ -13,14 +13,14 @@ use Rattle.property.specs.Meant.{meant}
 use Rattle.property.specs.declared.Property.{Property}
 use Rattle.property_form.specs.Read.{read, read-refusal, property-read, answer, too-short, pad-broken}
 use Rattle.record_form.specs.Record.{record-size}
-use Rattle.session.specs.declared.Session.{Session}
-use Rattle.session.specs.Record.{out-of-range}
-use Rattle.session.specs.Step.{fresh-of}
-use Rattle.session.specs.Lent.{Ready}
-use Rattle.session.proofs.Fit.{fresh-fit}
-use Rattle.session.proofs.Steps.{stays-in-range}
-use Rattle.session.proofs.Ready.{fit-ready}
-use Rattle.session.proofs.Running.{fresh-record}
+use Rattle.session_record.specs.declared.Session.{Session}
+use Rattle.session_record.specs.Record.{out-of-range}
+use Rattle.session_record.specs.Step.{fresh-of}
+use Rattle.session_record.specs.Lent.{Ready}
+use Rattle.session_record.proofs.Fit.{fresh-fit}
+use Rattle.session_record.proofs.Steps.{stays-in-range}
+use Rattle.session_record.proofs.Ready.{fit-ready}
+use Rattle.session_record.proofs.Running.{fresh-record}
 use Rattle.walk.specs.declared.Stop.the-variants.{Refused}
 use Rattle.walk.specs.Walk.{One, one-of, stopped, walked-by, walk-on, walk-of}
 use Rattle.walk.proofs.Steps.{IsStep, one-step}

@@ -12,9 +12,9 @@ use Rattle.property_form.specs.Read.{read}
 use Rattle.record_form.specs.Record.{record-size}
 use Rattle.record_form.specs.ReadAs.{ReadAs}
 use Rattle.record_form.proofs.ReadAs.{short-read}
-use Rattle.session.specs.declared.Session.{Session}
-use Rattle.session.specs.Record.{latest-of, out-of-range}
-use Rattle.session.specs.Step.{fresh-of}
+use Rattle.session_record.specs.declared.Session.{Session}
+use Rattle.session_record.specs.Record.{latest-of, out-of-range}
+use Rattle.session_record.specs.Step.{fresh-of}
 use Rattle.walk.specs.Walk.{one-read, one-of}
 use Rattle.walk.proofs.Steps.{more}
 use Rattle.printout.specs.Text.{header-text, stop-text, text-of}

@@ -5,9 +5,9 @@ use mathlib.Core.Bool.{true, false}
 use mathlib.Core.List.{List}
 use Rattle.meaning.specs.Calls.{unless-refused}
 use Rattle.held.specs.declared.Status.{Status}
-use Rattle.session.specs.declared.Session.{Session}
-use Rattle.session.specs.declared.lent.Told.{Told}
-use Rattle.session.specs.Lent.{Ready}
+use Rattle.session_record.specs.declared.Session.{Session}
+use Rattle.session_record.specs.declared.Told.{Told}
+use Rattle.session_record.specs.Lent.{Ready}
 use Rattle.walk.specs.Walk.{one-of}
 use Rattle.printout.specs.Text.{stop-text, text-of}
 use Rattle.printed.specs.declared.Printed.{Printed}

@@ -8,9 +8,9 @@ use Rattle.meaning.specs.Calls.{Call}
 use Rattle.property_form.specs.Read.{read}
 use Rattle.record_form.specs.Record.{input, output, gap}
 use Rattle.cuts.specs.Arrays.{number-of}
-use Rattle.session.specs.declared.Session.{Session}
-use Rattle.session.specs.Record.{count-of, out-of-range}
-use Rattle.session.specs.Step.{fresh-of, standing}
+use Rattle.session_record.specs.declared.Session.{Session}
+use Rattle.session_record.specs.Record.{count-of, out-of-range}
+use Rattle.session_record.specs.Step.{fresh-of, standing}
 use Rattle.walk.specs.Walk.{One, one-of}
 use Rattle.printout.specs.Text.{line-text, end-text, stop-text, text-of}
 use Rattle.printed.specs.declared.Printed.{Printed}

@@ -3,7 +3,7 @@ ghost use mathlib.Core.Path.{_≡_};
 ghost use mathlib.Core.Bool.{cond};
 ghost use Rattle.table.specs.Table.{IsTable};
 ghost use Rattle.record_form.specs.Record.{gap};
-ghost use Rattle.session.specs.Lent.{in-arrays, Ready};
+ghost use Rattle.session_record.specs.Lent.{in-arrays, Ready};
 ghost use Rattle.printout.specs.Text.{line-text, end-text, stop-text};
 ghost use Rattle.printed.specs.Printed.{one-after};
 ghost use Rattle.printed.specs.Lent.{last-added, call-added, Adds};
@@ -11,7 +11,7 @@ use held::Status;
 use printout::Text;
 use property::Property;
 use record_form::RecordRead;
-use session::lent::Told;
+use session_record::Told;
 
 // What a record adds to the listing, and the numbers beside the arrays after it.
 pub struct Added {
@@ -118,7 +118,7 @@ pub fn record(
     let read = record_form::read_record(bytes, status.latest);
     match read {
         RecordRead::Input(action, stamp) => {
-            let r = session::lent::line(
+            let r = in_place::line(
                 p,
                 table,
                 held,
@@ -133,7 +133,7 @@ pub fn record(
             on_line(r, count, false, action, stamp)
         }
         RecordRead::Output(action, stamp) => {
-            let r = session::lent::line(
+            let r = in_place::line(
                 p,
                 table,
                 held,
@@ -148,7 +148,7 @@ pub fn record(
             on_line(r, count, true, action, stamp)
         }
         RecordRead::Gap(stamp) => {
-            let r = session::lent::mark(p, held, acts, masks, marks, status, stamp);
+            let r = in_place::mark(p, held, acts, masks, marks, status, stamp);
             on_mark(r, count, stamp)
         }
         RecordRead::End(_) => ended(status, count),

@@ -9,7 +9,7 @@ ghost use Rattle.property_form.specs.Read.{length-read};
 ghost use Rattle.printout.specs.Text.{text-of};
 ghost use Rattle.printed.specs.Printed.{printed-of, opening-text, begun-of};
 use printout::Text;
-use session::Session;
+use session_record::Session;
 
 // What one part of the input adds to the listing, and what the next part starts from.
 pub struct Printed {
@@ -25,7 +25,7 @@ pub struct Printed {
 pub fn record(s: Session, count: u64, bytes: &[u8]) -> Printed
     ensures { λ r. ⌜ r ≡ printed-of s count (now (bytes .entry)) ⌝ }
 {
-    if session::unfit(s) {
+    if session_record::unfit(s) {
         return Printed {
             text: printout::stop(count, 10),
             session: s,
@@ -42,7 +42,7 @@ pub fn record(s: Session, count: u64, bytes: &[u8]) -> Printed
     let mut masks = row.masks;
     let mut marks = row.marks;
     let status = shared.status;
-    session::lent::tidy(p, &mut held, &mut acts, &mut masks, &mut marks, status);
+    in_place::tidy(p, &mut held, &mut acts, &mut masks, &mut marks, status);
     let r = lent::record(
         p,
         &table,
@@ -58,7 +58,7 @@ pub fn record(s: Session, count: u64, bytes: &[u8]) -> Printed
     if r.more {
         return Printed {
             text: text,
-            session: session::made(p, held, acts, masks, marks, r.status),
+            session: session_record::made(p, held, acts, masks, marks, r.status),
             count: r.count,
             more: true,
         };

@@ -6,7 +6,7 @@ use cuts::Row;
 use held::Shared;
 use held::Status;
 use property::Property;
-use session::Session;
+use session_record::Session;
 use text::Page;
 
 // A property takes 96 bytes, a session 1,729.
@@ -46,7 +46,7 @@ pub fn session(s: &[u8]) -> Session {
         latest: arguments::word_at(s, 1720),
         blind: arguments::flag(s, 1728),
     };
-    session::made(p, held, acts, masks, marks, status)
+    session_record::made(p, held, acts, masks, marks, status)
 }
 
 // Three lines.

@@ -5,9 +5,9 @@ use mathlib.Core.Bool.{Bool}
 use Rattle.meaning.specs.Calls.{Call}
 use Rattle.property.specs.declared.Property.{Property}
 use Rattle.cuts.specs.Steps.{line-of}
-use Rattle.session.specs.declared.Session.{Session}
-use Rattle.session.specs.declared.Stepped.{Stepped}
-use Rattle.session.specs.Step.{fresh-of, stepped-of}
+use Rattle.session_record.specs.declared.Session.{Session}
+use Rattle.session_record.specs.declared.Stepped.{Stepped}
+use Rattle.session_record.specs.Step.{fresh-of, stepped-of}
 
 pub fresh-determined : (p : Property) (r r′ : Stepped) → r ≡ fresh-of p → r′ ≡ fresh-of p → r ≡ r′
 fresh-determined p r r′ e e′ = e ∙ sym e′

@@ -23,10 +23,10 @@ use Rattle.record_form.specs.ReadAs.{ReadAs, read-as}
 use Rattle.record_form.proofs.Reading.{refusal-of as read-number}
 use Rattle.record_form.proofs.ReadAs.{refused-given}
 use Rattle.cuts.specs.Steps.{fresh-by, verdict-by, refusal-by, taken-by}
-use Rattle.session.specs.declared.Session.{Session}
-use Rattle.session.specs.Record.{latest-of, blind-of, cuts-of, record-of, out-of-range}
-use Rattle.session.specs.Step.{stepped-of, refusal-of, standing}
-use Rattle.session.proofs.Steps.{answer-refusal}
+use Rattle.session_record.specs.declared.Session.{Session}
+use Rattle.session_record.specs.Record.{latest-of, blind-of, cuts-of, record-of, out-of-range}
+use Rattle.session_record.specs.Step.{stepped-of, refusal-of, standing}
+use Rattle.session_record.proofs.Steps.{answer-refusal}
 use Rattle.walk.specs.declared.Stop.{Stop}
 use Rattle.walk.specs.declared.Stop.the-variants.{Budget, End, Refused}
 use Rattle.walk.specs.declared.Walked.{Walked}

@@ -18,14 +18,14 @@ use Rattle.property_form.specs.Read.{property-read, read, read-refusal, taken}
 use Rattle.property_form.proofs.Answers.{refusal-read, not-refused, property-of-read, taken-all}
 use Rattle.cuts.specs.Steps.{front-none, front-says, fresh-by}
 use Rattle.cuts.specs.Arrays.{front-of}
-use Rattle.session.specs.declared.Session.{Session}
-use Rattle.session.specs.declared.Stepped.{Stepped}
-use Rattle.session.specs.Record.{count-of, blind-of, record-of}
-use Rattle.session.specs.Lent.{in-arrays, Ready}
-use Rattle.session.specs.Step.{fresh-of, standing}
-use Rattle.session.proofs.Fit.{fresh-fit}
-use Rattle.session.proofs.Steps.{fresh-taken}
-use Rattle.session.proofs.Ready.{fit-ready}
+use Rattle.session_record.specs.declared.Session.{Session}
+use Rattle.session_record.specs.declared.Stepped.{Stepped}
+use Rattle.session_record.specs.Record.{count-of, blind-of, record-of}
+use Rattle.session_record.specs.Lent.{in-arrays, Ready}
+use Rattle.session_record.specs.Step.{fresh-of, standing}
+use Rattle.session_record.proofs.Fit.{fresh-fit}
+use Rattle.session_record.proofs.Steps.{fresh-taken}
+use Rattle.session_record.proofs.Ready.{fit-ready}
 use Rattle.walk.specs.declared.Stop.{Stop}
 use Rattle.walk.specs.declared.Stop.the-variants.{Budget, End, Refused}
 use Rattle.walk.specs.declared.Walked.{Walked}

@@ -7,8 +7,8 @@ use lib.Dec.{ltb}
 use Rattle.property.specs.declared.Property.{Property}
 use Rattle.property_form.specs.Read.{read, taken}
 use Rattle.cuts.specs.Steps.{fresh-by}
-use Rattle.session.specs.Record.{record-of}
-use Rattle.session.specs.Step.{standing}
+use Rattle.session_record.specs.Record.{record-of}
+use Rattle.session_record.specs.Step.{standing}
 use Rattle.walk.specs.declared.Stop.{Stop}
 use Rattle.walk.specs.declared.Stop.the-variants.{Budget, End, Refused}
 use Rattle.walk.specs.declared.Walked.{Walked}

@@ -2,8 +2,8 @@
 ghost use mathlib.Core.Path.{_≡_};
 ghost use Rattle.meaning.specs.Numbers.{property-refusal};
 ghost use Rattle.property.specs.Meant.{meant};
-ghost use Rattle.session.specs.Step.{standing};
-ghost use Rattle.session.specs.Lent.{in-arrays, Ready};
+ghost use Rattle.session_record.specs.Step.{standing};
+ghost use Rattle.session_record.specs.Lent.{in-arrays, Ready};
 ghost use Rattle.stretch.specs.Judge.{refused, trace-judged, judge-of, one-number};
 use held::Status;
 use property::Property;

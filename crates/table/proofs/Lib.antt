@@ -1,4 +1,4 @@
 pub mod Recursion
 pub mod TableRows
-pub mod Formed
+pub mod FromArrays
 pub mod Falling

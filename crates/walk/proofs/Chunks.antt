@@ -7,9 +7,9 @@ use native.Mathlib.Omega.{arith}
 use lib.ListN.{drop}
 use borrow.Author.Tests.{le-ltb}
 use Rattle.meaning.specs.Calls.{Call}
-use Rattle.session.specs.declared.Session.{Session}
-use Rattle.session.specs.Record.{out-of-range}
-use Rattle.session.proofs.Steps.{stays-in-range}
+use Rattle.session_record.specs.declared.Session.{Session}
+use Rattle.session_record.specs.Record.{out-of-range}
+use Rattle.session_record.proofs.Steps.{stays-in-range}
 use Rattle.walk.specs.declared.Walked.{Walked}
 use Rattle.walk.specs.declared.Stop.{Stop}
 use Rattle.walk.specs.declared.Stop.the-variants.{Budget, End, Refused}

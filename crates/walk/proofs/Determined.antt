@@ -6,7 +6,7 @@ use native.Mathlib.Omega.{arith}
 use denote.Ref.{RefT, ptr, now}
 use Rattle.fields.specs.Rest.{Rest}
 use Rattle.fields.proofs.Determined.{rest-determined}
-use Rattle.session.specs.declared.Session.{Session}
+use Rattle.session_record.specs.declared.Session.{Session}
 use Rattle.walk.specs.declared.Walked.{Walked}
 use Rattle.walk.specs.declared.Stop.{Stop}
 use Rattle.walk.specs.declared.Stop.the-variants.{Budget, End, Refused}

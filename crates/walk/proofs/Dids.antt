@@ -10,13 +10,13 @@ use Rattle.record_form.specs.ReadAs.{ReadAs, case-as}
 use Rattle.record_form.specs.declared.RecordRead.{RecordRead}
 use Rattle.record_form.specs.declared.RecordRead.the-variants.{End as RecordEnd, Refused as RecordRefused}
 use Rattle.record_form.proofs.ReadAs.{read-known, read-whole}
-use Rattle.session.specs.declared.Session.{Session}
-use Rattle.session.specs.declared.Answer.{Answer}
-use Rattle.session.specs.declared.Stepped.{Stepped}
-use Rattle.session.specs.Record.{latest-of}
-use Rattle.session.specs.Step.{stepped-of}
-use Rattle.session.specs.Lent.{Ready, Advanced}
-use Rattle.session.proofs.Steps.{step-refused, answer-refusal}
+use Rattle.session_record.specs.declared.Session.{Session}
+use Rattle.session_record.specs.declared.Answer.{Answer}
+use Rattle.session_record.specs.declared.Stepped.{Stepped}
+use Rattle.session_record.specs.Record.{latest-of}
+use Rattle.session_record.specs.Step.{stepped-of}
+use Rattle.session_record.specs.Lent.{Ready, Advanced}
+use Rattle.session_record.proofs.Steps.{step-refused, answer-refusal}
 use Rattle.walk.specs.declared.Did.the-variants.{Took, Ended, Not}
 use Rattle.walk.specs.declared.Walked.{Walked}
 use Rattle.walk.specs.Walk.{One, one-call, try-call, one-read, one-of, one-more, walked-by}

@@ -11,9 +11,9 @@ use Rattle.meaning.specs.Calls.{Call}
 use Rattle.record_form.specs.Record.{record-size, record-answer}
 use Rattle.record_form.specs.ReadAs.{ReadAs, read-as}
 use Rattle.record_form.proofs.ReadAs.{short-read}
-use Rattle.session.specs.declared.Session.{Session}
-use Rattle.session.specs.Record.{latest-of}
-use Rattle.session.specs.Step.{stepped-of, stepped-through}
+use Rattle.session_record.specs.declared.Session.{Session}
+use Rattle.session_record.specs.Record.{latest-of}
+use Rattle.session_record.specs.Step.{stepped-of, stepped-through}
 use Rattle.walk.specs.declared.Stop.{Stop}
 use Rattle.walk.specs.declared.Stop.the-variants.{Budget, End, Refused}
 use Rattle.walk.specs.declared.Walked.{Walked}

@@ -8,13 +8,13 @@ use lib.ListN.{drop}
 use Rattle.meaning.specs.Calls.{Call}
 use Rattle.record_form.specs.Record.{record-size, record-answer}
 use Rattle.record_form.specs.ReadAs.{ReadAs, read-as}
-use Rattle.session.specs.declared.Session.{Session}
-use Rattle.session.specs.declared.Stepped.{Stepped}
-use Rattle.session.specs.Record.{latest-of, out-of-range}
-use Rattle.session.specs.Step.{refusal-of, stepped-of}
-use Rattle.session.specs.Lent.{tidied}
-use Rattle.session.proofs.Steps.{answer-refusal}
-use Rattle.session.proofs.Tidy.{tidied-refusal, tidied-taken}
+use Rattle.session_record.specs.declared.Session.{Session}
+use Rattle.session_record.specs.declared.Stepped.{Stepped}
+use Rattle.session_record.specs.Record.{latest-of, out-of-range}
+use Rattle.session_record.specs.Step.{refusal-of, stepped-of}
+use Rattle.session_record.specs.Lent.{tidied}
+use Rattle.session_record.proofs.Steps.{answer-refusal}
+use Rattle.session_record.proofs.Tidy.{tidied-refusal, tidied-taken}
 use Rattle.walk.specs.declared.Walked.{Walked}
 use Rattle.walk.specs.Walk.{one-call, one-read, one-more, walked-by, walk-on}
 

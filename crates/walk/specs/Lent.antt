@@ -4,8 +4,8 @@ use mathlib.Core.Path.{_≡_}
 use mathlib.Core.List.{List}
 use lib.ListN.{length}
 use Rattle.record_form.specs.Record.{record-size}
-use Rattle.session.specs.declared.Session.{Session}
-use Rattle.session.specs.Lent.{Ready}
+use Rattle.session_record.specs.declared.Session.{Session}
+use Rattle.session_record.specs.Lent.{Ready}
 use Rattle.walk.specs.declared.Stop.{Stop}
 use Rattle.walk.specs.declared.Stop.the-variants.{End, Refused}
 use Rattle.walk.specs.declared.Did.{Did}

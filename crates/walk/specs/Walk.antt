@@ -7,9 +7,9 @@ use lib.Dec.{ltb}
 use Rattle.meaning.specs.Calls.{Call}
 use Rattle.record_form.specs.Record.{record-answer, record-size}
 use Rattle.record_form.specs.ReadAs.{ReadAs, read-as}
-use Rattle.session.specs.declared.Session.{Session}
-use Rattle.session.specs.Record.{latest-of, out-of-range}
-use Rattle.session.specs.Step.{stepped-of}
+use Rattle.session_record.specs.declared.Session.{Session}
+use Rattle.session_record.specs.Record.{latest-of, out-of-range}
+use Rattle.session_record.specs.Step.{stepped-of}
 use Rattle.walk.specs.declared.Stop.{Stop}
 use Rattle.walk.specs.declared.Stop.the-variants.{Budget, End, Refused}
 use Rattle.walk.specs.declared.Walked.{Walked}

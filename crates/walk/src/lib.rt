@@ -3,16 +3,15 @@ ghost use mathlib.Core.Path.{_≡_};
 ghost use lib.ListN.{length};
 ghost use Rattle.fields.specs.Rest.{Rest};
 ghost use Rattle.table.specs.Table.{IsTable};
-ghost use Rattle.session.specs.Lent.{in-arrays, Ready};
+ghost use Rattle.session_record.specs.Lent.{in-arrays, Ready};
 ghost use Rattle.walk.specs.Walk.{in-numbers, walk-of, budget-of, rest-start};
 ghost use Rattle.walk.specs.Lent.{did-of, Turned, HasGone};
 use held::Status;
 use property::Property;
 use record_form::RECORD_SIZE;
 use record_form::RecordRead;
-use session::Session;
-use session::lent;
-use session::lent::Told;
+use session_record::Session;
+use session_record::Told;
 
 // "a budget of 0 to 4,096 records (more counts as 4,096)"
 const MOST_RECORDS: usize = 4096;
@@ -98,7 +97,7 @@ fn one_record(
     let record = record_form::read_record(bytes, status.latest);
     match record {
         RecordRead::Input(action, stamp) => {
-            after(lent::line(
+            after(in_place::line(
                 p,
                 table,
                 held,
@@ -112,7 +111,7 @@ fn one_record(
             ))
         }
         RecordRead::Output(action, stamp) => {
-            after(lent::line(
+            after(in_place::line(
                 p,
                 table,
                 held,
@@ -125,7 +124,7 @@ fn one_record(
                 stamp,
             ))
         }
-        RecordRead::Gap(stamp) => after(lent::mark(p, held, acts, masks, marks, status, stamp)),
+        RecordRead::Gap(stamp) => after(in_place::mark(p, held, acts, masks, marks, status, stamp)),
         RecordRead::End(_) => Turn {
             did: Did::Ended,
             status: status,
@@ -206,7 +205,7 @@ fn limited(budget: usize) -> usize
 pub fn walk(s: Session, trace: &[u8], budget: usize) -> Walked
     ensures { λ r. ⌜ in-numbers r ≡ walk-of s (now (trace .entry)) budget ⌝ }
 {
-    if session::unfit(s) {
+    if session_record::unfit(s) {
         return Walked {
             taken: 0,
             stop: Stop::Refused(10),
@@ -223,7 +222,7 @@ pub fn walk(s: Session, trace: &[u8], budget: usize) -> Walked
     let mut masks = row.masks;
     let mut marks = row.marks;
     let status = shared.status;
-    lent::tidy(p, &mut held, &mut acts, &mut masks, &mut marks, status);
+    in_place::tidy(p, &mut held, &mut acts, &mut masks, &mut marks, status);
     let r = records(
         p,
         &table,
@@ -248,7 +247,7 @@ pub fn walk(s: Session, trace: &[u8], budget: usize) -> Walked
         taken: r.taken,
         stop: stop,
         read: r.read,
-        session: session::made(p, held, acts, masks, marks, r.status),
+        session: session_record::made(p, held, acts, masks, marks, r.status),
     }
 }
 

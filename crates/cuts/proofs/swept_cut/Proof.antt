@@ -5,10 +5,10 @@ use mathlib.Core.Bool.{Bool, true, false, cond}
 use native.Mathlib.Omega.{arith}
 use borrow.Author.Needs.{needs}
 use borrow.Author.Tests.{le-leb, lt-leb}
+use Rattle.property.proofs.Refusal.{taken-bounds}
 use Rattle.meaning.specs.Matcher.{moved, either, none-of}
 use Rattle.property.specs.Meant.{meant}
 use Rattle.matcher.specs.Sets.{set-of}
-use Rattle.table.proofs.Formed.{formed-bounds}
 use Rattle.cuts.specs.Steps.{line-of}
 use Rattle.cuts.proofs.swept_cut.Statement.{statement}
 use Rattle.cuts.proofs.swept_cut.Tie as tie
@@ -18,13 +18,13 @@ moved-requires c κs = search needs
 
 mul-if1 : tie.Need-mul-if1
 mul-if1 c =
-    let bounds = formed-bounds (c .before .before .args .p) (c .before .before .pre .0) in
-    record { fits = omega (arith, bounds .1, bounds .2) }
+    let bounds = taken-bounds (c .before .before .args .p) (c .before .before .pre .0) in
+    record { fits = omega (arith, bounds .order, bounds .high) }
 
 add-if1 : tie.Need-add-if1
 add-if1 c =
-    let bounds = formed-bounds (c .before .before .args .p) (c .before .before .pre .0) in
-    record { fits = omega (arith, bounds .1, bounds .2, c .before .before .pre .2) }
+    let bounds = taken-bounds (c .before .before .args .p) (c .before .before .pre .0) in
+    record { fits = omega (arith, bounds .order, bounds .high, c .before .before .pre .2) }
 
 moved-requires-2 : tie.Need-moved-requires-2
 moved-requires-2 c κs = search needs

@@ -1,7 +1,7 @@
 -- `kept::next` meets its contract: each arm is given which constructor the event is, at which `call-of` computes to the call that the arm makes.
 use mathlib.Core.Path.{sym, ap, _∙_}
 use borrow.Author.Needs.{needs}
-use Rattle.session.specs.Step.{stepped-of}
+use Rattle.session_record.specs.Step.{stepped-of}
 use Rattle.kept.specs.Event.{call-of}
 use Rattle.kept.proofs.next.Statement.{statement}
 use Rattle.kept.proofs.next.Tie as tie

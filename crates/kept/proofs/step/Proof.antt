@@ -38,16 +38,16 @@ use denote.Triple.Table.{entered, cited}
 use denote.Triple.Walked.{says, Stays, stay-ref, stay-none, walkOf, AllGo, goes-none, goes-ref, Walks, ends-at, walked, walk-meets}
 use denote.Triple.Clauses.{ensured, lasts}
 use denote.Exit.{yes}
-use Rattle.session.specs.Step.{stepped-of}
-use Rattle.session.specs.declared.Session.{Session}
-use Rattle.session.specs.declared.Answer.{Answer}
-use Rattle.session.specs.declared.Stepped.{Stepped}
-use Rattle.session.proofs.Session as T
-use Rattle.session.proofs.Session.Laws as T′
-use Rattle.session.proofs.Answer as R
-use Rattle.session.proofs.Answer.Laws as R′
-use Rattle.session.proofs.Stepped as S
-use Rattle.session.proofs.Stepped.Laws as S′
+use Rattle.session_record.specs.Step.{stepped-of}
+use Rattle.session_record.specs.declared.Session.{Session}
+use Rattle.session_record.specs.declared.Answer.{Answer}
+use Rattle.session_record.specs.declared.Stepped.{Stepped}
+use Rattle.session_record.proofs.Session as T
+use Rattle.session_record.proofs.Session.Laws as T′
+use Rattle.session_record.proofs.Answer as R
+use Rattle.session_record.proofs.Answer.Laws as R′
+use Rattle.session_record.proofs.Stepped as S
+use Rattle.session_record.proofs.Stepped.Laws as S′
 use Rattle.kept.specs.Event.{call-of}
 use Rattle.kept.specs.declared.Event.{Event}
 use Rattle.kept.proofs.Event as E

@@ -1,7 +1,7 @@
 -- `listing_shell::records` is safe and ends: the arrays are ready before each record, and the turns that are left are fewer each time.
 use native.Mathlib.Omega.{arith}
-use Rattle.session.specs.Lent.{in-arrays, Ready}
-use Rattle.session.proofs.Range.{ranged}
+use Rattle.session_record.specs.Lent.{in-arrays, Ready}
+use Rattle.session_record.proofs.Range.{ranged}
 use Rattle.listing_shell.proofs.records.Statement.{statement}
 use Rattle.listing_shell.proofs.records.Tie as tie
 

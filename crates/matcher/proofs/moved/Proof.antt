@@ -4,7 +4,7 @@ use mathlib.Core.Path.{refl, sym, subst, _∙_}
 use native.Mathlib.Omega.{arith}
 use lib.Dec.{ltb}
 use lib.Pow.{pow-pos}
-use Rattle.table.proofs.Formed.{formed-length}
+use Rattle.property.proofs.Refusal.{taken-bounds}
 use Rattle.matcher.proofs.Words.{fits-parts, armed-lt, with-lt}
 use Rattle.matcher.proofs.Moving.{step-asks, input-moves, allowed-moves, outside-moves}
 use borrow.Author.Needs.{needs}
@@ -35,7 +35,7 @@ arranged-requires c κs =
     let a = b .args in
     let low = armed-lt (a .p .n) (a .cut .marks) (fits-parts (a .p) (a .cut) (b .pre .2) .1) in
     let zero-lt = pow-pos (suc (a .p .n)) in
-    (formed-length (a .p) (b .pre .0) .1, c .before .step .ensures .1, omega arith, subst (λ (m : ℕ). m < 2) (sym (c .with-broken .ensures)) (with-lt (a .cut .marks % 2) (ltb 0 (a .cut .marks / 2)) (omega arith)))
+    (taken-bounds (a .p) (b .pre .0) .most, c .before .step .ensures .1, omega arith, subst (λ (m : ℕ). m < 2) (sym (c .with-broken .ensures)) (with-lt (a .cut .marks % 2) (ltb 0 (a .cut .marks / 2)) (omega arith)))
 
 returns : tie.Need-returns
 returns c =
@@ -65,7 +65,7 @@ arranged-requires-2 c κs =
     let a = b .args in
     let low = armed-lt (a .p .n) (a .cut .marks) (fits-parts (a .p) (a .cut) (b .pre .2) .1) in
     let zero-lt = pow-pos (suc (a .p .n)) in
-    (formed-length (a .p) (b .pre .0) .1, c .step2 .ensures .1, omega arith, omega arith)
+    (taken-bounds (a .p) (b .pre .0) .most, c .step2 .ensures .1, omega arith, omega arith)
 
 returns-2 : tie.Need-returns-2
 returns-2 c =
@@ -101,7 +101,7 @@ arranged-requires-3 c κs =
     let a = b .args in
     let low = armed-lt (a .p .n) (a .cut .marks) (fits-parts (a .p) (a .cut) (b .pre .2) .1) in
     let zero-lt = pow-pos (suc (a .p .n)) in
-    (formed-length (a .p) (b .pre .0) .1, c .before .step3 .ensures .1, c .step4 .ensures .1, omega arith)
+    (taken-bounds (a .p) (b .pre .0) .most, c .before .step3 .ensures .1, c .step4 .ensures .1, omega arith)
 
 returns-3 : tie.Need-returns-3
 returns-3 c =

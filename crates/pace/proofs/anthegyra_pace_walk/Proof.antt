@@ -8,9 +8,9 @@ use native.Mathlib.Nat.{le-antisymm}
 use denote.Ref.{now}
 use borrow.Author.Needs.{needs}
 use Rattle.property_form.specs.declared.PropertyRead.{PropertyRead}
-use Rattle.session.specs.declared.Session.{Session}
-use Rattle.session.specs.declared.Stepped.{Stepped}
-use Rattle.session.specs.Step.{fresh-of}
+use Rattle.session_record.specs.declared.Session.{Session}
+use Rattle.session_record.specs.declared.Stepped.{Stepped}
+use Rattle.session_record.specs.Step.{fresh-of}
 use Rattle.walk.specs.declared.Walked.{Walked}
 use Rattle.walk.specs.Walk.{Walking, in-numbers, walk-of}
 use Rattle.pace.specs.Pace.{last-taken}

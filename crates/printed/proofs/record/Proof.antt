@@ -4,11 +4,11 @@ use mathlib.Core.Path.{_≡_, sym, ap, subst, _∙_}
 use mathlib.Core.Bool.{true, false}
 use mathlib.Core.List.{List}
 use denote.Ref.{now}
-use Rattle.session.specs.declared.Session.{Session}
-use Rattle.session.specs.Record.{out-of-range}
-use Rattle.session.specs.Lent.{in-arrays, tidied, Ready}
-use Rattle.session.proofs.Range.{ranged}
-use Rattle.session.proofs.Ready.{tidied-ready}
+use Rattle.session_record.specs.declared.Session.{Session}
+use Rattle.session_record.specs.Record.{out-of-range}
+use Rattle.session_record.specs.Lent.{in-arrays, tidied, Ready}
+use Rattle.session_record.proofs.Range.{ranged}
+use Rattle.session_record.proofs.Ready.{tidied-ready}
 use Rattle.printout.specs.declared.Text.{Text}
 use Rattle.printed.specs.Lent.{Adds}
 use Rattle.printed.proofs.Listed.{named}

@@ -1,11 +1,11 @@
 -- `session::fresh` meets its contract: the property's refusal decides.
 use mathlib.Core.Path.{sym, ap, _∙_}
 use Rattle.meaning.specs.Calls
-use Rattle.session.specs.declared.Session.{Session}
-use Rattle.session.specs.Step.{answer-of}
-use Rattle.session.specs.Lent.{blank}
-use Rattle.session.proofs.Steps.{fresh-refused, fresh-taken}
-use Rattle.session.proofs.Ready.{blank-fresh, blank-zeros}
+use Rattle.session_record.specs.declared.Session.{Session}
+use Rattle.session_record.specs.Step.{answer-of}
+use Rattle.session_record.specs.Lent.{blank}
+use Rattle.session_record.proofs.Steps.{fresh-refused, fresh-taken}
+use Rattle.session_record.proofs.Ready.{blank-fresh, blank-zeros}
 use borrow.Author.Needs.{needs}
 use Rattle.session.proofs.fresh.Statement.{statement}
 use Rattle.session.proofs.fresh.Tie as tie

@@ -2,12 +2,12 @@
 use mathlib.Core.Path.{_≡_, sym, ap, subst, _∙_}
 use mathlib.Core.Bool.{false}
 use Rattle.meaning.specs.Calls.{Call}
-use Rattle.session.specs.declared.Session.{Session}
-use Rattle.session.specs.Record.{out-of-range}
-use Rattle.session.specs.Lent.{in-arrays, tidied, Ready, Advanced}
-use Rattle.session.proofs.Steps.{named-refused}
-use Rattle.session.proofs.Ready.{tidied-ready}
-use Rattle.session.proofs.Tidy.{by-value-taken, by-value-refused}
+use Rattle.session_record.specs.declared.Session.{Session}
+use Rattle.session_record.specs.Record.{out-of-range}
+use Rattle.session_record.specs.Lent.{in-arrays, tidied, Ready, Advanced}
+use Rattle.session_record.proofs.Steps.{named-refused}
+use Rattle.session_record.proofs.Ready.{tidied-ready}
+use Rattle.session_record.proofs.Tidy.{by-value-taken, by-value-refused}
 use borrow.Author.Needs.{needs}
 use Rattle.session.proofs.mark.Statement.{statement}
 use Rattle.session.proofs.mark.Tie as tie

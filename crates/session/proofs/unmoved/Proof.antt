@@ -1,7 +1,7 @@
 -- `session::unmoved` meets its contract.
 use mathlib.Core.Path.{ap}
-use Rattle.session.specs.declared.Answer.{Answer}
-use Rattle.session.specs.declared.Stepped.{Stepped}
+use Rattle.session_record.specs.declared.Answer.{Answer}
+use Rattle.session_record.specs.declared.Stepped.{Stepped}
 use borrow.Author.Needs.{needs}
 use Rattle.session.proofs.unmoved.Statement.{statement}
 use Rattle.session.proofs.unmoved.Tie as tie

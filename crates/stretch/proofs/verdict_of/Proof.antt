@@ -2,10 +2,10 @@
 use mathlib.Core.Path.{_∙_}
 use native.Mathlib.Omega.{arith}
 use denote.Ref.{now}
-use Rattle.session.specs.declared.Session.{Session}
-use Rattle.session.specs.Lent.{in-arrays}
-use Rattle.session.proofs.Ready.{ready-ranged}
-use Rattle.session.proofs.Advances.{open-usable}
+use Rattle.session_record.specs.declared.Session.{Session}
+use Rattle.session_record.specs.Lent.{in-arrays}
+use Rattle.session_record.proofs.Ready.{ready-ranged}
+use Rattle.in_place.proofs.Advances.{open-usable}
 use Rattle.stretch.proofs.Judging.{standing-blind, standing-open}
 use borrow.Author.Needs.{needs}
 use Rattle.stretch.proofs.verdict_of.Statement.{statement}

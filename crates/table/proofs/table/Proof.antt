@@ -1,14 +1,15 @@
 -- `table::table` meets its contract: the table of a property that is taken.
 use mathlib.Core.Path.{refl}
+use Rattle.property.proofs.Refusal.{taken-bounds, taken-number}
 use Rattle.laws.proofs.Filled.{getD-repeat}
-use Rattle.table.proofs.Formed.{formed-length, formed-number, is-table}
+use Rattle.table.proofs.FromArrays.{is-table}
 use Rattle.table.proofs.table.Statement.{statement}
 use Rattle.table.proofs.table.Tie as tie
 
 table-of-requires : tie.Need-table-of-requires
 table-of-requires c κs =
     let p = c .before .before .before .before .before .args .p in
-    ((formed-length p (c .before .before .before .before .before .pre) .1, refl, getD-repeat 0 4257), formed-number p (c .before .before .before .before .before .pre))
+    ((taken-bounds p (c .before .before .before .before .before .pre) .most, refl, getD-repeat 0 4257), taken-number p (c .before .before .before .before .before .pre))
 
 returns : tie.Need-returns
 returns c = is-table (c .before .before .before .before .before .before .args .p) (c .table-of .last .1 .1 .1 .0) (c .table-of .ensures)

@@ -1,8 +1,8 @@
 -- `walk::one_record` meets its contract: what the reader answers, kind by kind.
 use mathlib.Core.Path.{refl, sym, subst}
 use denote.Ref.{now}
-use Rattle.session.specs.declared.Session.{Session}
-use Rattle.session.specs.Lent.{in-arrays}
+use Rattle.session_record.specs.declared.Session.{Session}
+use Rattle.session_record.specs.Lent.{in-arrays}
 use Rattle.walk.specs.declared.Turn.{Turn}
 use Rattle.walk.specs.Lent.{Turned}
 use Rattle.walk.proofs.Dids.{call-turned, end-turned, refused-turned}

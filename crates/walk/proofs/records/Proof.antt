@@ -2,7 +2,7 @@
 use Prim.Native.Nat.{_-_}
 use native.Mathlib.Omega.{arith}
 use borrow.Author.Needs.{needs}
-use Rattle.session.specs.Lent.{in-arrays}
+use Rattle.session_record.specs.Lent.{in-arrays}
 use Rattle.walk.proofs.Going.{Going, going-start, going-took, going-ended, going-refused, going-done, turned-part}
 use Rattle.walk.proofs.records.Statement.{statement}
 use Rattle.walk.proofs.records.Tie as tie

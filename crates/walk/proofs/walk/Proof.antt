@@ -3,11 +3,11 @@ use Prim.Native.Nat.{ℕ}
 use mathlib.Core.Path.{_≡_, sym, ap, subst, _∙_}
 use mathlib.Core.Bool.{false}
 use mathlib.Core.List.{List}
-use Rattle.session.specs.declared.Session.{Session}
-use Rattle.session.specs.Record.{out-of-range}
-use Rattle.session.specs.Lent.{in-arrays, tidied, Ready}
-use Rattle.session.proofs.Range.{ranged}
-use Rattle.session.proofs.Ready.{tidied-ready}
+use Rattle.session_record.specs.declared.Session.{Session}
+use Rattle.session_record.specs.Record.{out-of-range}
+use Rattle.session_record.specs.Lent.{in-arrays, tidied, Ready}
+use Rattle.session_record.proofs.Range.{ranged}
+use Rattle.session_record.proofs.Ready.{tidied-ready}
 use Rattle.walk.specs.declared.Walked.{Walked}
 use Rattle.walk.specs.Walk.{Walking, walk-on, in-numbers, budget-of, walk-of}
 use Rattle.walk.proofs.Going.{walk-refused, walk-taken}

@@ -3,8 +3,8 @@ use mathlib.Core.Path.{refl}
 use mathlib.Core.Bool.{true, false}
 use denote.Ref.{now}
 use Rattle.held.specs.declared.Status.{Status}
-use Rattle.session.specs.declared.Session.{Session}
-use Rattle.session.specs.Lent.{in-arrays}
+use Rattle.session_record.specs.declared.Session.{Session}
+use Rattle.session_record.specs.Lent.{in-arrays}
 use Rattle.printed.proofs.Listed.{line-adds, mark-adds, end-adds, refused-adds}
 use borrow.Author.Needs.{needs}
 use Rattle.printed.proofs.lent.record.Statement.{statement}

@@ -1,0 +1,17 @@
+-- `in_place::unmoved` meets its contract.
+use mathlib.Core.Path.{ap}
+use Rattle.session_record.specs.declared.Answer.{Answer}
+use Rattle.session_record.specs.declared.Told.{Told}
+use borrow.Author.Needs.{needs}
+use Rattle.in_place.proofs.unmoved.Statement.{statement}
+use Rattle.in_place.proofs.unmoved.Tie as tie
+
+refused-requires : tie.Need-refused-requires
+refused-requires c κs = search needs
+
+returns : tie.Need-returns
+returns c =
+    ap {B = Told} (λ (x : Answer). record { answer = x; status = c .before .args .status }) (c .refused .ensures)
+
+pub unmoved-spec : {M : Type 1} → statement M
+unmoved-spec = tie.close (tie.spec refused-requires returns)

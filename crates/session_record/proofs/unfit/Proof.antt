@@ -1,0 +1,118 @@
+-- `session_record::unfit` meets its contract: at each `return` the tests that led there decide refusal 10.
+use mathlib.Core.Path.{_≡_, refl, sym, ap, _∙_}
+use mathlib.Core.Bool.{Bool, true, false, not, _&&_, _||_, or-true, or-false}
+use borrow.Author.Tests.{lt-ltb, le-ltb, eq-eqb, ne-eqb}
+use lib.Dec.{ltb}
+use Rattle.property.proofs.Refusal.{taken-bounds}
+use Rattle.meaning.specs.Limits.{last-stamp, most-open}
+use Rattle.meaning.specs.Numbers.{property-refusal}
+use Rattle.property.specs.Meant.{meant}
+use Rattle.session_record.specs.declared.Session.{Session}
+use Rattle.session_record.specs.Record.{count-of, latest-of, length-above}
+use Rattle.session_record.proofs.Range.{misformed, crowded, fallen, held-blind, late, too-long, range-tests}
+use borrow.Author.Needs.{needs}
+use Rattle.session_record.proofs.unfit.Statement.{statement}
+use Rattle.session_record.proofs.unfit.Tie as tie
+
+-- From a test that was passed back to the one before it, and to the record.
+abbrev S : tie.Else1 → Session
+S e = e .before .before .before .args .s
+
+abbrev back-1 : tie.Else2 → tie.Else1
+back-1 e = e .before .before .before
+
+abbrev back-2 : tie.Else3 → tie.Else2
+back-2 e = e .before .before .before .before
+
+-- what each says
+taken : (e : tie.Else1) → property-refusal (meant (S e .property)) ≡ 0
+taken e = sym (e .before .refused .ensures) ∙ e .if1 .left
+
+formed : (e : tie.Else1) → misformed (S e) ≡ false
+formed e = ap not (eq-eqb (property-refusal (meant (S e .property))) 0 (taken e))
+
+few : (e : tie.Else2) → crowded (S (back-1 e)) ≡ false
+few e = le-ltb most-open (count-of (S (back-1 e))) (e .if2 .left)
+
+rising : (e : tie.Else3) → fallen (S (back-1 (back-2 e))) ≡ false
+rising e = sym (e .before .falls .ensures) ∙ e .if3 .left
+
+refused-requires : tie.Need-refused-requires
+refused-requires c κs = search needs
+
+returns : tie.Need-returns
+returns c =
+    let s = c .before .before .before .args .s in
+    sym
+    (range-tests s true (crowded s) (fallen s) (held-blind s) (late s) (too-long s)
+    (ap not (ne-eqb (property-refusal (meant (s .property))) 0 (λ e. c .if1 .taken (c .before .refused .ensures ∙ e)))) refl refl refl refl refl)
+
+returns-2 : tie.Need-returns-2
+returns-2 c =
+    let s = c .before .before .before .before .before .before .args .s in
+    sym
+    (range-tests s false true (fallen s) (held-blind s) (late s) (too-long s)
+    (formed (c .before .before .before)) (lt-ltb most-open (count-of s) (c .if2 .taken)) refl refl refl refl)
+
+falls-requires : tie.Need-falls-requires
+falls-requires c κs = search needs
+
+returns-3 : tie.Need-returns-3
+returns-3 c =
+    let e = c .before .before .before .before in
+    let s = S (back-1 e) in
+    sym
+    (range-tests s false false true (held-blind s) (late s) (too-long s)
+    (formed (back-1 e)) (few e) (sym (c .before .falls .ensures) ∙ c .if3 .taken) refl refl refl)
+
+returns-4 : tie.Need-returns-4
+returns-4 c =
+    let e = c .before in
+    let s = S (back-1 (back-2 e)) in
+    sym
+    (range-tests s false false false (held-blind s) true (too-long s)
+    (formed (back-1 (back-2 e))) (few (back-2 e)) (rising e) refl (lt-ltb last-stamp (latest-of s) (c .if4 .taken)) refl
+    ∙ ap (λ (b : Bool). b || too-long s) (or-true (held-blind s)))
+
+returns-5 : tie.Need-returns-5
+returns-5 c =
+    let e = c .before .before in
+    let s = S (back-1 (back-2 e)) in
+    sym
+    (range-tests s false false false (ltb 0 (count-of s)) false false (formed (back-1 (back-2 e))) (few (back-2 e)) (rising e)
+    (ap (λ (b : Bool). b && ltb 0 (count-of s)) (c .if5 .taken))
+    (le-ltb last-stamp (latest-of s) (c .before .if4 .left))
+    (ap (λ (b : Bool). not b && length-above (s .row) (count-of s) (s .property .n)) (c .if5 .taken))
+    ∙ ap (λ (b : Bool). b || false) (or-false (ltb 0 (count-of s)))
+    ∙ or-false (ltb 0 (count-of s)))
+
+strays-requires : tie.Need-strays-requires
+strays-requires c κs =
+    let e = c .before .before .before .before .before .before .before in
+    (back-2 e .if2 .left, taken-bounds (S (back-1 (back-2 e)) .property) (taken (back-1 (back-2 e))) .most)
+
+returns-6 : tie.Need-returns-6
+returns-6 c =
+    let e = c .before .before .before .before .before .before .before .before in
+    let s = S (back-1 (back-2 e)) in
+    let above = length-above (s .row) (count-of s) (s .property .n) in
+    c .strays .ensures
+    ∙ sym
+    (range-tests s false false false false false above (formed (back-1 (back-2 e))) (few (back-2 e)) (rising e)
+    (ap (λ (b : Bool). b && ltb 0 (count-of s)) (c .before .before .before .before .before .before .if5 .left))
+    (le-ltb last-stamp (latest-of s) (c .before .before .before .before .before .before .before .if4 .left))
+    (ap (λ (b : Bool). not b && above) (c .before .before .before .before .before .before .if5 .left)))
+
+pub unfit-spec : {M : Type 1} → statement M
+unfit-spec =
+    tie.close
+    (tie.spec
+    refused-requires
+    returns
+    returns-2
+    falls-requires
+    returns-3
+    returns-4
+    returns-5
+    strays-requires
+    returns-6)
