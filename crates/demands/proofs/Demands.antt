@@ -38,7 +38,7 @@ use Rattle.session_record.proofs.Steps.{step-refused, answer-refusal, fresh-ref
 use Rattle.session_record.proofs.Running.{running-answer}
 use Rattle.kept.specs.Event.{call-of}
 use Rattle.kept.specs.declared.Event.the-variants as Kept
-use Rattle.walk.specs.Walk.{budget-of, walk-of}
+use Rattle.walk.specs.Walk.{budget-of, walk-of, rest-start}
 use Rattle.stretch.specs.Judge.{judge-of, one-number}
 use Rattle.stretch.proofs.Judging.{one-long}
 use Rattle.printout.specs.Text.{header-text, stop-text, text-of}
@@ -49,12 +49,11 @@ use Rattle.demands.specs.Uses.{Use, session-through}
 use Rattle.demands.specs.Traces.{entry-of, first-met}
 use Rattle.demands.proofs.Running.{running, seen, running-number, running-range}
 use Rattle.demands.proofs.Exact.{blind-kept, exact-kept, line-told, says-blind}
-use Rattle.demands.proofs.Walks.{WalkedOver, walk-over, walk-named}
+use Rattle.demands.proofs.Walks.{WalkedOver, walk-over, walk-named, walk-rest}
 use Rattle.demands.proofs.Judging.{JudgeTaken, judge-taken, judge-first, judge-alone, taken-apart}
-use Rattle.record_form.proofs.Reading.{refusal-of as refusal-of-record}
 use Rattle.demands.proofs.Uses.{uses-are-calls}
 use Rattle.demands.proofs.Listing.{ShownAs, refused-shown, read-good, listing-shown}
-use Rattle.demands.proofs.Forms.{record-refused, record-not-written, fresh-number}
+use Rattle.demands.proofs.Forms.{record-number, record-refused, record-not-written, fresh-number}
 -- "Packed properties and traces read back as written, and only one packing of each is taken."
 pub use Rattle.property_form.proofs.RoundTrip.{write-then-read as property-reads-back, read-then-write as property-writes-back, one-packing as property-one-packing}
 pub use Rattle.record_form.proofs.Trace.{trace-reads-back, trace-writes-back, trace-one-packing}
@@ -132,7 +131,7 @@ pub demand-1 : (s : Session) (c : Call)
 unfolding refusal-of
 demand-1 s c = record { first = answer-refusal s c; alone = λ n e. step-refused s c (suc n) (sym (answer-refusal s c) ∙ e) (λ z. omega arith) }
 
--- `fresh`: 1, 2, 3; zeros, and a session of zeros. Taken, verdict 0 and no input held.
+-- `fresh`, and `property::refused`, whose number this is: 1, 2, 3; zeros, and a session of zeros. Taken, verdict 0 and no input held.
 pub demand-1-fresh : (p : Data.Property)
     → Refuses (fresh-of p .answer .refusal) (property-refusal (meant p)) (λ n. fresh-of p ≡ record { answer = answer-of (Calls.refused n); session = no-session })
 demand-1-fresh p = record { first = fresh-number p; alone = λ n e. fresh-refused p (suc n) (sym (fresh-number p) ∙ e) (λ z. omega arith) }
@@ -170,7 +169,7 @@ pub demand-1-read-record : (s : List ℕ) (before : ℕ)
     (first-of (given 8 (broken (field s 0 2) (field s 2 6) (not (eqb (field s 8 40) 0)))) (given 4 (stamp-above (before + field s 8 40) before))))
     (λ n. (record-answer s before ≡ Record.refused n) × (bytes-read s before ≡ 0))
 unfolding read-refusal fields-refusal
-demand-1-read-record s before = record { first = refusal-of-record s before; alone = λ n e. record-refused s before n (sym (refusal-of-record s before) ∙ e) }
+demand-1-read-record s before = record { first = record-number s before; alone = λ n e. record-refused s before n (sym (record-number s before) ∙ e) }
 
 -- `write_record`: 8, 3, 4, 5, 9; no byte is written.
 pub demand-1-write-record : (kind action stamp before : ℕ) (buffer : List ℕ)
@@ -225,13 +224,14 @@ module _ (p : Data.Property) (good : property-refusal (meant p) ≡ 0) where
       → WalkedOver (running p good calls) bytes (budget-of budget) (walk-of (running p good calls) bytes budget)
   running-walk calls bytes budget = walk-over (running p good calls) bytes budget (running-range p good calls)
 
--- ==== The walk on any record, also one that no calls made: refusal 10 first, whatever the budget, and otherwise as above
+-- ==== The walk on any record, also one that no calls made: 10 first, whatever the budget, else as above; `walk_rest` begins behind it
 pub record Demand-1-walk (s : Session) (bytes : List ℕ) (budget : ℕ) : Type 0 where
   pub named : out-of-range s ≡ true → walk-of s bytes budget ≡ record { taken = 0; stop = 2; refusal = 10; read = 0; session = s }
   pub walked : out-of-range s ≡ false → WalkedOver s bytes (budget-of budget) (walk-of s bytes budget)
+  pub rest : rest-start (length bytes) (walk-of s bytes budget .read) ≡ walk-of s bytes budget .read
 
 pub demand-1-walk : (s : Session) (bytes : List ℕ) (budget : ℕ) → Demand-1-walk s bytes budget
-demand-1-walk s bytes budget = record { named = walk-named s bytes budget; walked = walk-over s bytes budget }
+demand-1-walk s bytes budget = record { named = walk-named s bytes budget; walked = walk-over s bytes budget; rest = walk-rest s bytes budget }
 
 -- ==== What is called. "0 input, 1 output, 2 gap, 3 end":
 pub kinds : (k t : ℕ) → (kind-of (Entry.input k t) ≡ 0) × (kind-of (Entry.output k t) ≡ 1) × (kind-of (Entry.gap t) ≡ 2) × (Record.end ≡ 3)

@@ -15,6 +15,7 @@ use Rattle.session_record.proofs.Steps.{fresh-refused, fresh-taken}
 use Rattle.record_form.specs.Record.{Bytes, record-size, record-answer, read-refusal, bytes-read, write-refusal, written, answered}
 use Rattle.record_form.specs.Record
 use Rattle.record_form.specs.Trace.{Entry, kind-of, action-of, stamp-of}
+use Rattle.record_form.proofs.Reading.{refusal-of}
 use Rattle.record_form.proofs.RoundTrip.{record-one-packing}
 use Rattle.demands.specs.Traces.{BeginsWith}
 
@@ -25,6 +26,10 @@ fresh-number p = go (property-refusal (meant p)) refl
     go : (n : ℕ) → property-refusal (meant p) ≡ n → fresh-of p .answer .refusal ≡ n
     go zero e = ap (λ (r : Stepped). r .answer .refusal) (fresh-taken p e)
     go (suc n) e = ap (λ (r : Stepped). r .answer .refusal) (fresh-refused p (suc n) e (λ z. omega arith))
+
+-- the number of a record read is the reader's refusal
+pub record-number : (s : List ℕ) (before : ℕ) → record-answer s before .refusal ≡ read-refusal s before
+record-number = refusal-of
 
 pub record-refused : (s : List ℕ) (before n : ℕ) → read-refusal s before ≡ suc n → (record-answer s before ≡ Record.refused (suc n)) × (bytes-read s before ≡ 0)
 unfolding record-answer answered bytes-read

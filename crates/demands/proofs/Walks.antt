@@ -29,8 +29,9 @@ use Rattle.session_record.proofs.Steps.{step-taken, answer-refusal}
 use Rattle.walk.specs.declared.Stop.{Stop}
 use Rattle.walk.specs.declared.Stop.the-variants.{End, Refused}
 use Rattle.walk.specs.declared.Walked.{Walked}
-use Rattle.walk.specs.Walk.{Walking, stop-number, stop-refusal, one-call, one-read, stopped, one-more, walked-by, walk-on, in-numbers, budget-of, walk-of}
+use Rattle.walk.specs.Walk.{Walking, stop-number, stop-refusal, one-call, one-read, stopped, one-more, walked-by, walk-on, in-numbers, budget-of, walk-of, rest-start}
 use Rattle.walk.proofs.Going.{walk-refused, walk-taken}
+use Rattle.walk.proofs.Steps.{rest-behind}
 use Rattle.demands.specs.Traces.{calls-of, BeginsWith, behind, TakenOneByOne, StopsBy}
 
 -- What the record at the front is: an entry of a trace, the end, or refused.
@@ -172,3 +173,6 @@ walk-over s bytes budget e = subst (WalkedOver s bytes (budget-of budget)) (sym 
 
 pub walk-named : (s : Session) (bytes : List ℕ) (budget : ℕ) → out-of-range s ≡ true → walk-of s bytes budget ≡ in-numbers (stopped s (Refused 10) 0)
 walk-named = walk-refused
+
+pub walk-rest : (s : Session) (bytes : List ℕ) (budget : ℕ) → rest-start (length bytes) (walk-of s bytes budget .read) ≡ walk-of s bytes budget .read
+walk-rest = rest-behind

@@ -1,23 +1,24 @@
--- A walk is exactly as many single steps as it took, and two walks one behind the other are one.
+-- A walk is exactly as many single steps as it took, two walks one behind the other are one, and the rest stands behind what was read.
 use Prim.Native.Nat.{ℕ, zero, suc, _+_, _*_, _≤_, _<_}
 use mathlib.Core.Path.{_≡_, refl, sym, _∙_, ap, subst}
-use mathlib.Core.Bool.{Bool, true, false, not}
+use mathlib.Core.Bool.{Bool, true, false, cond, not}
 use mathlib.Core.List.{List, [], _∷_}
 use native.Mathlib.Omega.{arith}
 use lib.ListN.{length, drop, length-drop}
 use lib.Dec.{T, leb, leb→le, nleb→lt}
 use lib.Seq.{drop-drop}
+use borrow.Author.Tests.{le-ltb}
 use Rattle.meaning.specs.Calls.{Call}
 use Rattle.record_form.specs.Record.{record-size, record-answer}
 use Rattle.record_form.specs.ReadAs.{ReadAs, read-as}
 use Rattle.record_form.proofs.ReadAs.{short-read}
 use Rattle.session_record.specs.declared.Session.{Session}
-use Rattle.session_record.specs.Record.{latest-of}
+use Rattle.session_record.specs.Record.{latest-of, out-of-range}
 use Rattle.session_record.specs.Step.{stepped-of, stepped-through}
 use Rattle.walk.specs.declared.Stop.{Stop}
 use Rattle.walk.specs.declared.Stop.the-variants.{Budget, End, Refused}
 use Rattle.walk.specs.declared.Walked.{Walked}
-use Rattle.walk.specs.Walk.{One, one-call, one-read, one-of, stopped, one-more, walked-by, walk-on}
+use Rattle.walk.specs.Walk.{One, one-call, one-read, one-of, stopped, one-more, walked-by, walk-on, in-numbers, budget-of, walk-of, rest-start}
 
 -- ---- single steps
 
@@ -176,3 +177,39 @@ budget-enough (suc budget) s bytes h = go (leb record-size (length bytes)) (leb�
     go false y n k =
         subst (λ (o : One). NotBudget (walked-by o s (λ after. walk-on budget after (drop record-size bytes)) .stop)) (sym (short-refused s bytes (n tt)))
         (unfold walked-by in at-refusal 7)
+
+-- ---- the bytes read
+
+-- A walk reads no more bytes than there are.
+pub read-inside : (budget : ℕ) (s : Session) (bytes : List ℕ) → walk-on budget s bytes .read ≤ length bytes
+unfolding walk-on
+read-inside zero s bytes = omega arith
+read-inside (suc budget) s bytes = go (leb record-size (length bytes)) (leb→le record-size (length bytes)) (nleb→lt record-size (length bytes))
+    (λ after. read-inside budget after (drop record-size bytes))
+  where
+    by-one : (o : One) → record-size ≤ length bytes
+        → ((after : Session) → walk-on budget after (drop record-size bytes) .read ≤ length (drop record-size bytes))
+        → walked-by o s (λ after. walk-on budget after (drop record-size bytes)) .read ≤ length bytes
+    by-one One.ended h k = unfold walked-by in h
+    by-one (One.refused n) h k = unfold walked-by in (omega arith)
+    by-one (One.took c after) h k = unfold walked-by in (omega (arith, k after, length-drop record-size bytes))
+
+    go : (t : Bool) → (T t → record-size ≤ length bytes) → (T (not t) → length bytes < record-size)
+        → ((after : Session) → walk-on budget after (drop record-size bytes) .read ≤ length (drop record-size bytes))
+        → walked-by (one-of s bytes) s (λ after. walk-on budget after (drop record-size bytes)) .read ≤ length bytes
+    go true y n k = by-one (one-of s bytes) (y tt) k
+    go false y n k =
+        subst (λ (o : One). walked-by o s (λ after. walk-on budget after (drop record-size bytes)) .read ≤ length bytes) (sym (short-refused s bytes (n tt)))
+        (unfold walked-by in (omega arith))
+
+-- So the rest is what stands behind them, and never the whole slice in its place.
+pub rest-behind : (s : Session) (bytes : List ℕ) (budget : ℕ) → rest-start (length bytes) (walk-of s bytes budget .read) ≡ walk-of s bytes budget .read
+unfolding walk-of
+rest-behind s bytes budget = le-start (out-of-range s)
+  where
+    le-start : (b : Bool) → rest-start (length bytes) (in-numbers (cond b (stopped s (Refused 10) 0) (walk-on (budget-of budget) s bytes)) .read)
+        ≡ in-numbers (cond b (stopped s (Refused 10) 0) (walk-on (budget-of budget) s bytes)) .read
+    le-start true = ap (λ (t : Bool). cond t 0 0) (le-ltb (length bytes) 0 (omega arith))
+    le-start false =
+        ap (λ (t : Bool). cond t 0 (walk-on (budget-of budget) s bytes .read))
+        (le-ltb (length bytes) (walk-on (budget-of budget) s bytes .read) (read-inside (budget-of budget) s bytes))
