@@ -33,16 +33,18 @@ some-test m = go (eqb m 0) (eqb-true m 0) (eqb-false m 0)
     go false y z = let e : m ≡ 0 → ⊥ = z refl in lt-ltb 0 m (omega arith)
 
 module _ (p : Property) (formed : property-refusal (meant p) ≡ 0) (table : List ℕ) (is : IsTable p table) (out : Bool) (act at : ℕ)
-    (row : at ≡ row-of out act) (cut : Cut) (fits : Fits p cut) where
-  -- the lengths of a mask, moved by the table
-  abbrev pub Steps : ℕ → ℕ → Type 0
-  Steps before after = (j : ℕ) → bit after j ≡ stepped (p .n) (λ k. getD table (at + k) 0) (bit before) j
-
+    (row : at ≡ row-of out act) where
   -- what the step of a mask asks
   pub step-asks : (m : ℕ) → m < 2 ^ suc (p .n)
       → ((p .n ≤ 32) × (at ≤ 4224) × (m < 2 ^ suc (p .n))) × ((k : ℕ) → k ≤ p .n → getD table (at + k) 0 ≤ p .n)
   step-asks m h =
       ((taken-bounds p formed .most, omega (arith, row, row-le out act), h), entry-le p table is out act at row)
+
+module _ (p : Property) (formed : property-refusal (meant p) ≡ 0) (table : List ℕ) (is : IsTable p table) (out : Bool) (act at : ℕ)
+    (row : at ≡ row-of out act) (cut : Cut) (fits : Fits p cut) where
+  -- the lengths of a mask, moved by the table
+  abbrev pub Steps : ℕ → ℕ → Type 0
+  Steps before after = (j : ℕ) → bit after j ≡ stepped (p .n) (λ k. getD table (at + k) 0) (bit before) j
 
   steps-is : (before after : ℕ) → Steps before after → bit after ≡ stepped (p .n) (λ k. getD table (at + k) 0) (bit before)
   steps-is before after e = fun-ext e

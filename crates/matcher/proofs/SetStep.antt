@@ -53,17 +53,17 @@ some-to-apart (suc n) s g k h e =
         (ih (omega arith))
         ∙ past (apart s g k (suc n)) (g k) (some-to n (apart s g k))
 
+-- The lowest length of a set of lengths up to n.
+below : (n rest : ℕ) → rest < 2 ^ suc n → n ≤ 32 → rest < 2 ^ 64
+below n rest low few = let wide : 2 ^ suc n ≤ 2 ^ 64 = pow-mono {i = suc n} {j = 64} (omega arith) in omega arith
+
+pub lowest-le : (n rest : ℕ) → 0 < rest → rest < 2 ^ suc n → n ≤ 32 → trailingZeros 64 rest ≤ n
+lowest-le n rest pos low few =
+    let h : trailingZeros 64 rest < suc n = bit-width (suc n) rest (trailingZeros 64 rest) low (lowest-in 64 rest pos (below n rest low few)) in
+    omega arith
+
 -- One turn.
 module _ (n : ℕ) (f : ℕ → ℕ) (rest r : ℕ) (pos : 0 < rest) (low : rest < 2 ^ suc n) (few : n ≤ 32) where
-  wide : 2 ^ suc n ≤ 2 ^ 64
-  wide = pow-mono {i = suc n} {j = 64} (omega arith)
-
-  below : rest < 2 ^ 64
-  below = omega (arith, wide)
-
-  pub lowest-le : trailingZeros 64 rest ≤ n
-  lowest-le = let h : trailingZeros 64 rest < suc n = bit-width (suc n) rest (trailingZeros 64 rest) low (lowest-in 64 rest pos below) in omega arith
-
   one-bit : f (trailingZeros 64 rest) ≤ n → (1 * 2 ^ f (trailingZeros 64 rest)) % 2 ^ 64 ≡ 2 ^ f (trailingZeros 64 rest)
   one-bit h = shl-exact {a = 1} 1 (f (trailingZeros 64 rest)) 64 (omega arith) (omega arith) ∙ one-mul (2 ^ f (trailingZeros 64 rest))
 
@@ -73,7 +73,7 @@ module _ (n : ℕ) (f : ℕ → ℕ) (rest r : ℕ) (pos : 0 < rest) (low : rest
   unfolding apart
   turn h j =
       ap (λ (b : Bool). bit r j || b)
-      (some-to-apart n (bit rest) (λ k. eqb (f k) j) (trailingZeros 64 rest) lowest-le (lowest-in 64 rest pos below))
+      (some-to-apart n (bit rest) (λ k. eqb (f k) j) (trailingZeros 64 rest) (lowest-le n rest pos low few) (lowest-in 64 rest pos (below n rest low few)))
       ∙ sym (or-assoc (bit r j) (eqb (f (trailingZeros 64 rest)) j) (some-to n (apart (bit rest) (λ k. eqb (f k) j) (trailingZeros 64 rest))))
       ∙ ap₂ (λ (a b : Bool). a || b)
       (ap (λ (b : Bool). bit r j || b) (sym (bit-one (f (trailingZeros 64 rest)) j))
@@ -82,7 +82,7 @@ module _ (n : ℕ) (f : ℕ → ℕ) (rest r : ℕ) (pos : 0 < rest) (low : rest
       (some-to-agree n
       (apart (bit rest) (λ k. eqb (f k) j) (trailingZeros 64 rest))
       (λ k. bit (bitAnd rest (rest - 1)) k && eqb (f k) j)
-      (λ k l. ap (λ (b : Bool). b && eqb (f k) j) (sym (bit-rest 64 rest k pos below))))
+      (λ k l. ap (λ (b : Bool). b && eqb (f k) j) (sym (bit-rest 64 rest k pos (below n rest low few)))))
 
   pub turn-lt : f (trailingZeros 64 rest) ≤ n → r < 2 ^ suc n → bitOr r ((1 * 2 ^ f (trailingZeros 64 rest)) % 2 ^ 64) < 2 ^ suc n
   turn-lt h l =

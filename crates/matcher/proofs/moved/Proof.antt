@@ -23,8 +23,7 @@ step-requires c κs =
     let a = b .args in
     let row = c .before .before .before .before .before .row in
     let low = fits-parts (a .p) (a .cut) (b .pre .2) in
-    let zero-lt = pow-pos (suc (a .p .n)) in
-    step-asks (a .p) (b .pre .0) (a .table .now) (b .pre .1) (a .out) (a .act) (row .result) (row .ensures) (a .cut) (b .pre .2) _ (low .0)
+    step-asks (a .p) (b .pre .0) (a .table .now) (b .pre .1) (a .out) (a .act) (row .result) (row .ensures) _ (low .0)
 
 with-broken-requires : tie.Need-with-broken-requires
 with-broken-requires c κs = search needs
@@ -35,7 +34,8 @@ arranged-requires c κs =
     let a = b .args in
     let low = armed-lt (a .p .n) (a .cut .marks) (fits-parts (a .p) (a .cut) (b .pre .2) .1) in
     let zero-lt = pow-pos (suc (a .p .n)) in
-    (taken-bounds (a .p) (b .pre .0) .most, c .before .step .ensures .1, omega arith, subst (λ (m : ℕ). m < 2) (sym (c .with-broken .ensures)) (with-lt (a .cut .marks % 2) (ltb 0 (a .cut .marks / 2)) (omega arith)))
+    let broken = with-lt (a .cut .marks % 2) (ltb 0 (a .cut .marks / 2)) (omega arith) in
+    (taken-bounds (a .p) (b .pre .0) .most, c .before .step .ensures .1, omega arith, subst (λ (m : ℕ). m < 2) (sym (c .with-broken .ensures)) broken)
 
 returns : tie.Need-returns
 returns c =
@@ -55,8 +55,7 @@ step-requires-2 c κs =
     let a = b .args in
     let row = c .before .before .before .before .before .before .row in
     let low = fits-parts (a .p) (a .cut) (b .pre .2) in
-    let zero-lt = pow-pos (suc (a .p .n)) in
-    step-asks (a .p) (b .pre .0) (a .table .now) (b .pre .1) (a .out) (a .act) (row .result) (row .ensures) (a .cut) (b .pre .2) _
+    step-asks (a .p) (b .pre .0) (a .table .now) (b .pre .1) (a .out) (a .act) (row .result) (row .ensures) _
     (c .both .ensures .1 (suc (a .p .n)) (low .0) (armed-lt (a .p .n) (a .cut .marks) (low .1)))
 
 arranged-requires-2 : tie.Need-arranged-requires-2
@@ -83,8 +82,7 @@ step-requires-3 c κs =
     let a = b .args in
     let row = c .before .before .before .row in
     let low = fits-parts (a .p) (a .cut) (b .pre .2) in
-    let zero-lt = pow-pos (suc (a .p .n)) in
-    step-asks (a .p) (b .pre .0) (a .table .now) (b .pre .1) (a .out) (a .act) (row .result) (row .ensures) (a .cut) (b .pre .2) _ (low .0)
+    step-asks (a .p) (b .pre .0) (a .table .now) (b .pre .1) (a .out) (a .act) (row .result) (row .ensures) _ (low .0)
 
 step-requires-4 : tie.Need-step-requires-4
 step-requires-4 c κs =
@@ -93,14 +91,12 @@ step-requires-4 c κs =
     let row = c .before .before .before .before .row in
     let low = fits-parts (a .p) (a .cut) (b .pre .2) in
     let zero-lt = pow-pos (suc (a .p .n)) in
-    step-asks (a .p) (b .pre .0) (a .table .now) (b .pre .1) (a .out) (a .act) (row .result) (row .ensures) (a .cut) (b .pre .2) _ (omega (arith, armed-lt (a .p .n) (a .cut .marks) (low .1)))
+    step-asks (a .p) (b .pre .0) (a .table .now) (b .pre .1) (a .out) (a .act) (row .result) (row .ensures) _ (omega (arith, armed-lt (a .p .n) (a .cut .marks) (low .1)))
 
 arranged-requires-3 : tie.Need-arranged-requires-3
 arranged-requires-3 c κs =
     let b = c .before .before .before .before .before .before in
     let a = b .args in
-    let low = armed-lt (a .p .n) (a .cut .marks) (fits-parts (a .p) (a .cut) (b .pre .2) .1) in
-    let zero-lt = pow-pos (suc (a .p .n)) in
     (taken-bounds (a .p) (b .pre .0) .most, c .before .step3 .ensures .1, c .step4 .ensures .1, omega arith)
 
 returns-3 : tie.Need-returns-3

@@ -5,7 +5,6 @@ use mathlib.Core.Path.{_≡_, sym, ap, _∙_}
 use mathlib.Core.Bool.{Bool, _||_}
 use native.Mathlib.Omega.{arith}
 use lib.Pow.{pow-pos}
-use lib.Bits.{bitAnd}
 use lib.Count.{trailingZeros}
 use Rattle.laws.proofs.Bits.{bit-none, rest-less}
 use lib.ListN.{getD}
@@ -25,65 +24,26 @@ loop-holds : tie.Need-loop-holds Inv-loop μ-loop
 loop-holds c = (search needs, pow-pos (suc (c .args .n)), λ j. ap (λ (b : Bool). b || stepped (c .args .n) (λ k. getD (c .args .table .now) (c .args .at + k) 0) (bit (c .args .mask)) j) (sym (bit-none j)))
 
 cast-k : tie.Need-cast-k Inv-loop μ-loop
-cast-k c =
-    let a = c .before .before .args in
-    let rest = c .before .loop .rest in
-    let r = c .before .loop .r in
-    let f : ℕ → ℕ = λ k. getD (a .table .now) (a .at + k) 0 in
-    let pos : 0 < rest = omega arith in
-    let small : rest < 2 ^ suc (a .n) = omega arith in
-    let few : a .n ≤ 32 = omega arith in
-    let k : trailingZeros 64 rest ≤ a .n = lowest-le (a .n) f rest r pos small few in
-    record { fits = omega arith }
+cast-k c = record { fits = omega (arith, lowest-le (c .before .before .args .n) (c .before .loop .rest) (omega arith) (omega arith) (omega arith)) }
 
 add-r : tie.Need-add-r Inv-loop μ-loop
-add-r c =
-    let a = c .before .before .args in
-    let rest = c .before .loop .rest in
-    let r = c .before .loop .r in
-    let f : ℕ → ℕ = λ k. getD (a .table .now) (a .at + k) 0 in
-    let pos : 0 < rest = omega arith in
-    let small : rest < 2 ^ suc (a .n) = omega arith in
-    let few : a .n ≤ 32 = omega arith in
-    let k : trailingZeros 64 rest ≤ a .n = lowest-le (a .n) f rest r pos small few in
-    record { fits = omega arith }
+add-r c = record { fits = omega (arith, lowest-le (c .before .before .args .n) (c .before .loop .rest) (omega arith) (omega arith) (omega arith)) }
 
 element-copy-out-r : tie.Need-element-copy-out-r Inv-loop μ-loop
-element-copy-out-r c =
-    let a = c .before .before .args in
-    let rest = c .before .loop .rest in
-    let r = c .before .loop .r in
-    let f : ℕ → ℕ = λ k. getD (a .table .now) (a .at + k) 0 in
-    let pos : 0 < rest = omega arith in
-    let small : rest < 2 ^ suc (a .n) = omega arith in
-    let few : a .n ≤ 32 = omega arith in
-    let k : trailingZeros 64 rest ≤ a .n = lowest-le (a .n) f rest r pos small few in
-    omega arith
+element-copy-out-r c = omega (arith, lowest-le (c .before .before .args .n) (c .before .loop .rest) (omega arith) (omega arith) (omega arith))
 
 cast-r : tie.Need-cast-r Inv-loop μ-loop
 cast-r c =
-    let a = c .before .before .before .args in
+    let b = c .before .before .before in
     let rest = c .before .before .loop .rest in
-    let r = c .before .before .loop .r in
-    let f : ℕ → ℕ = λ k. getD (a .table .now) (a .at + k) 0 in
-    let pos : 0 < rest = omega arith in
-    let small : rest < 2 ^ suc (a .n) = omega arith in
-    let few : a .n ≤ 32 = omega arith in
-    let k : trailingZeros 64 rest ≤ a .n = lowest-le (a .n) f rest r pos small few in
-    let to : f (trailingZeros 64 rest) ≤ a .n = c .before .before .before .pre .1 (trailingZeros 64 rest) k in
+    let to = b .pre .1 (trailingZeros 64 rest) (lowest-le (b .args .n) rest (omega arith) (omega arith) (omega arith)) in
     record { fits = omega arith }
 
 shl-r : tie.Need-shl-r Inv-loop μ-loop
 shl-r c =
-    let a = c .before .before .before .args in
+    let b = c .before .before .before in
     let rest = c .before .before .loop .rest in
-    let r = c .before .before .loop .r in
-    let f : ℕ → ℕ = λ k. getD (a .table .now) (a .at + k) 0 in
-    let pos : 0 < rest = omega arith in
-    let small : rest < 2 ^ suc (a .n) = omega arith in
-    let few : a .n ≤ 32 = omega arith in
-    let k : trailingZeros 64 rest ≤ a .n = lowest-le (a .n) f rest r pos small few in
-    let to : f (trailingZeros 64 rest) ≤ a .n = c .before .before .before .pre .1 (trailingZeros 64 rest) k in
+    let to = b .pre .1 (trailingZeros 64 rest) (lowest-le (b .args .n) rest (omega arith) (omega arith) (omega arith)) in
     omega arith
 
 sub-rest : tie.Need-sub-rest Inv-loop μ-loop
@@ -94,17 +54,18 @@ loop-less c = rest-less (c .before .before .loop .rest) (omega arith)
 
 loop-again : tie.Need-loop-again Inv-loop μ-loop
 loop-again c =
-    let a = c .before .before .before .args in
-    let rest = c .before .before .loop .rest in
-    let r = c .before .before .loop .r in
+    let b = c .before .before .before in
+    let a = b .args in
+    let w = c .before .before .loop in
     let f : ℕ → ℕ = λ k. getD (a .table .now) (a .at + k) 0 in
-    let pos : 0 < rest = omega arith in
-    let small : rest < 2 ^ suc (a .n) = omega arith in
+    let pos : 0 < w .rest = omega arith in
+    let small : w .rest < 2 ^ suc (a .n) = omega arith in
     let few : a .n ≤ 32 = omega arith in
-    let k : trailingZeros 64 rest ≤ a .n = lowest-le (a .n) f rest r pos small few in
-    let to : f (trailingZeros 64 rest) ≤ a .n = c .before .before .before .pre .1 (trailingZeros 64 rest) k in
-    let less : bitAnd rest (rest - 1) < rest = rest-less rest pos in
-    (omega arith, turn-lt (a .n) f rest r pos small few to (c .before .before .loop .inv .1), λ j. c .before .before .loop .inv .2 j ∙ turn (a .n) f rest r pos small few to j)
+    let to : f (trailingZeros 64 (w .rest)) ≤ a .n = b .pre .1 (trailingZeros 64 (w .rest)) (lowest-le (a .n) (w .rest) pos small few) in (
+      omega (arith, rest-less (w .rest) pos),
+      turn-lt (a .n) f (w .rest) (w .r) pos small few to (w .inv .1),
+      λ j. w .inv .2 j ∙ turn (a .n) f (w .rest) (w .r) pos small few to j,
+    )
 
 returns : tie.Need-returns Inv-loop μ-loop
 returns c =
