@@ -1,6 +1,5 @@
--- The demands of document 00, each as a theorem. Open this file first; the words it uses are defined in crates/meaning/specs (runs,
--- explanations, verdicts, refusals, histories) and in crates/demands/specs (traces). `running p calls` is the session after any
--- calls on a fresh one, `seen p calls` what those calls have come to by the rules.
+-- The demands of document 00 as theorems: open this file first. Its words are defined in crates/meaning/specs and crates/demands/specs;
+-- `running p calls` is the session after any calls on a fresh one, `seen p calls` what those calls have come to by the rules.
 use Prim.Native.Nat.{ℕ, suc, _+_, _*_, _/_, _%_, _≤_, _<_}
 use mathlib.Core.Path.{_≡_, refl, sym, _∙_, ap}
 use mathlib.Core.Bool.{Bool, true, false, not}
@@ -54,10 +53,11 @@ use Rattle.demands.proofs.Judging.{JudgeTaken, judge-taken, judge-first
 use Rattle.demands.proofs.Uses.{uses-are-calls}
 use Rattle.demands.proofs.Listing.{ShownAs, refused-shown, read-good, listing-shown}
 use Rattle.demands.proofs.Forms.{record-number, record-refused, record-not-written, fresh-number}
--- "Packed properties and traces read back as written, and only one packing of each is taken."
+-- "Packed properties and traces read back as written, and only one packing of each is taken." Numbers of a listing read back too.
 pub use Rattle.property_form.proofs.RoundTrip.{write-then-read as property-reads-back, read-then-write as property-writes-back, one-packing as property-one-packing}
 pub use Rattle.record_form.proofs.Trace.{trace-reads-back, trace-writes-back, trace-one-packing}
 pub use Rattle.demands.proofs.Written.{written-trace}
+pub use Rattle.demands.proofs.Digits.{decimal-reads}
 pub use Rattle.demands.proofs.Forms.{begins-one-packing}
 
 -- ==== Demand 2, over the meaning. "After each line taken while the watcher isn't blind, the verdict on the run is exact."

@@ -8,4 +8,5 @@ pub mod Judged
 pub mod Judging
 pub mod Written
 pub mod Forms
+pub mod Digits
 pub mod Listing

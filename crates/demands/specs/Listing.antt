@@ -1,5 +1,5 @@
 -- The listing, line by line, in the words of the rules.
-use Prim.Native.Nat.{ℕ}
+use Prim.Native.Nat.{ℕ, _+_, _*_, _-_}
 use mathlib.Core.Path.{_≡_}
 use mathlib.Core.Logic.{_⊎_}
 use mathlib.Core.List.{List, [], _∷_, _++_}
@@ -14,6 +14,11 @@ use Rattle.session_record.specs.Record.{latest-of}
 use Rattle.printout.specs.Text.{line-text, end-text, stop-text}
 use Rattle.printed.specs.Printed.{one-after}
 use Rattle.demands.specs.Traces.{RefusedWith}
+
+-- The number that decimal digits stand for, read behind what stands before them: 48 is "0".
+unfoldable pub read-digits : ℕ → List ℕ → ℕ
+read-digits before [] = before
+read-digits before (d ∷ rest) = read-digits (before * 10 + (d - 48)) rest
 
 -- The lines of these records, after calls on a fresh session and `number` lines: "record number from 1; I, O or G; action; stamp;
 -- verdict after it; number open".
