@@ -53,7 +53,7 @@ use Rattle.demands.proofs.Judging.{JudgeTaken, judge-taken, judge-first
 use Rattle.demands.proofs.Uses.{uses-are-calls}
 use Rattle.demands.proofs.Listing.{ShownAs, refused-shown, read-good, listing-shown}
 use Rattle.demands.proofs.Forms.{record-number, record-refused, record-not-written, fresh-number}
--- "Packed properties and traces read back as written, and only one packing of each is taken." Numbers of a listing read back too.
+-- "Packed properties and traces read back as written, and only one packing of each is taken." Numbers of a listing are decimal.
 pub use Rattle.property_form.proofs.RoundTrip.{write-then-read as property-reads-back, read-then-write as property-writes-back, one-packing as property-one-packing}
 pub use Rattle.record_form.proofs.Trace.{trace-reads-back, trace-writes-back, trace-one-packing}
 pub use Rattle.demands.proofs.Written.{written-trace}

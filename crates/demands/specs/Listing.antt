@@ -1,5 +1,5 @@
 -- The listing, line by line, in the words of the rules.
-use Prim.Native.Nat.{ℕ, _+_, _*_, _-_}
+use Prim.Native.Nat.{ℕ, _+_, _*_, _-_, _≤_, _<_}
 use mathlib.Core.Path.{_≡_}
 use mathlib.Core.Logic.{_⊎_}
 use mathlib.Core.List.{List, [], _∷_, _++_}
@@ -15,10 +15,27 @@ use Rattle.printout.specs.Text.{line-text, end-text, stop-text}
 use Rattle.printed.specs.Printed.{one-after}
 use Rattle.demands.specs.Traces.{RefusedWith}
 
--- The number that decimal digits stand for, read behind what stands before them: 48 is "0".
+-- Decimal digits alone: 48 is "0", 57 is "9".
+unfoldable pub AllDigits : List ℕ → Type 0
+AllDigits [] = Unit {0}
+AllDigits (d ∷ rest) = (48 ≤ d) × (d ≤ 57) × AllDigits rest
+
+-- At least one, and no zero before others.
+abbrev pub NoZeroFirst : List ℕ → Type 0
+NoZeroFirst [] = ⊥
+NoZeroFirst (d ∷ []) = Unit {0}
+NoZeroFirst (d ∷ e ∷ rest) = 48 < d
+
+-- The number that digits stand for, read behind what stands before them.
 unfoldable pub read-digits : ℕ → List ℕ → ℕ
 read-digits before [] = before
 read-digits before (d ∷ rest) = read-digits (before * 10 + (d - 48)) rest
+
+-- The text is this number in decimal.
+pub record InDecimal (v : ℕ) (text : List ℕ) : Type 0 where
+  pub all-digits : AllDigits text
+  pub no-zero-first : NoZeroFirst text
+  pub reads : read-digits 0 text ≡ v
 
 -- The lines of these records, after calls on a fresh session and `number` lines: "record number from 1; I, O or G; action; stamp;
 -- verdict after it; number open".

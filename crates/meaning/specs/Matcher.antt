@@ -51,7 +51,7 @@ pub data State : Type 0 where
   matched : Bool → ℕ → State
   broken : State
 
--- Armed behind the action a, which leads to the matched length k: set by a whole match, kept by inputs, cleared by an output.
+-- Armed behind the action a, which leads to the matched length k: set by a whole match, kept by inputs, cleared by any other output.
 abbrev pub armed-next : Property → Bool → Action → ℕ → Bool
 armed-next p armed a k = eqb k (length (p .sequence)) || (armed && is-input a)
 
