@@ -21,9 +21,10 @@ unfolding append
 append-len t [] = sym (add-zero (t .len))
 append-len t (b ∷ l) = let h : append (with-byte t b) l .len ≡ t .len + 1 + length l = append-len (with-byte t b) l in omega arith
 
--- The zeros behind a text give their first place up to a byte.
-room-left : (k : List ℕ) (b n : ℕ) → length k + suc n ≡ room → set (k ++ replicate (room - length k) 0) (length k) b ≡ (k ++ b ∷ []) ++ replicate (room - length (k ++ b ∷ [])) 0
-room-left k b n fits =
+-- The zeros behind a text give their first place up to a byte, whatever the room.
+pub room-left : (room : ℕ) (k : List ℕ) (b n : ℕ) → length k + suc n ≡ room
+    → set (k ++ replicate (room - length k) 0) (length k) b ≡ (k ++ b ∷ []) ++ replicate (room - length (k ++ b ∷ [])) 0
+room-left room k b n fits =
     let here : room - length k ≡ suc n = omega arith in
     let after : room - length (k ++ b ∷ []) ≡ n = omega (arith, length-append k (b ∷ [])) in
     rw (here, after) (set-append-seam k 0 (replicate n 0) b ∙ sym (append-assoc k (b ∷ []) (replicate n 0)))
@@ -31,7 +32,7 @@ room-left k b n fits =
 with-byte-text : (k : List ℕ) (b : ℕ) → length k < room → with-byte (text-of k) b ≡ text-of (k ++ b ∷ [])
 unfolding text-of
 with-byte-text k b fits =
-    let bytes = room-left k b (room - suc (length k)) (omega arith) in
+    let bytes = room-left room k b (room - suc (length k)) (omega arith) in
     let len : length k + 1 ≡ length (k ++ b ∷ []) = omega (arith, length-append k (b ∷ [])) in
     λ i. record { bytes = bytes i; len = len i }
 

@@ -4,6 +4,7 @@ ghost use mathlib.Core.List.{_∷_, [], _++_};
 ghost use Prim.Native.Nat.{_+_, _≤_, _<_};
 ghost use lib.ListN.{length};
 ghost use Rattle.printout.specs.Text.{room, space, digit, decimal, letter, word, header-text, line-text, end-text, stop-text, text-of};
+ghost use Rattle.printout.specs.Named.{named-header-text, front-text};
 ghost use Rattle.printout.specs.Append.{Added};
 
 // A line of the listing with its newline, and zeros behind it. The longest, each number of 20 digits, has 94 bytes.
@@ -133,4 +134,20 @@ pub fn stop(count: u64, refusal: u64) -> Text
 {
     let counted = put_field(put_word(empty(), b"stop "), count);
     put(put_number(counted, refusal), b'\n')
+}
+
+// The first line of every listing with names.
+pub fn named_header() -> Text
+    ensures { λ r. ⌜ r ≡ text-of named-header-text ⌝ }
+{
+    put_word(empty(), b"line kind action name stamp verdict open\n")
+}
+
+// The front of the line of record `number`, behind which a name stands.
+pub fn front(number: u64, kind: u8, action: u8) -> Text
+    ensures { λ r. ⌜ r ≡ text-of (front-text number kind action) ⌝ }
+{
+    let counted = put_field(empty(), number);
+    let of_kind = put(put(counted, letter_of(kind)), b' ');
+    put_number(of_kind, fields::wide(action))
 }

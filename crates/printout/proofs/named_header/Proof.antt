@@ -1,0 +1,25 @@
+-- `printout::named_header` meets its contract.
+use lib.Dec.{lit≤}
+use Rattle.printout.specs.Text.{text-of}
+use Rattle.printout.specs.Named.{named-header-text}
+use Rattle.printout.proofs.Growth.{whole}
+use borrow.Author.Needs.{needs}
+use Rattle.printout.proofs.named_header.Statement.{statement}
+use Rattle.printout.proofs.named_header.Tie as tie
+
+empty-requires : tie.Need-empty-requires
+empty-requires c κs = search needs
+
+slice-aggregate-put-word : tie.Need-slice-aggregate-put-word
+slice-aggregate-put-word c = search needs
+
+put-word-requires : tie.Need-put-word-requires
+put-word-requires c κs = search needs
+
+returns : tie.Need-returns
+unfolding named-header-text text-of
+returns c = whole (c .before .before .empty .ensures .0) (c .put-word .ensures) (lit≤ tt)
+
+pub named-header-spec : {M : Type 1} → statement M
+named-header-spec =
+    tie.close (tie.spec empty-requires slice-aggregate-put-word put-word-requires returns)
