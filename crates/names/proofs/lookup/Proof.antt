@@ -1,0 +1,141 @@
+-- `names::lookup` meets its contract. The loop's invariant: the name stands in what is left, if anywhere.
+use Prim.Native.Nat.{ℕ, _+_, _-_, _≤_, _<_}
+use mathlib.Core.Path.{_≡_, refl, sym, _∙_, subst}
+use mathlib.Core.List.{List}
+use native.Mathlib.Omega.{arith}
+use lib.ListN.{length, getD, drop-of-length-le}
+use denote.Ref.{now}
+use Rattle.names.proofs.Lists.{part-all}
+use Rattle.names.proofs.Spans.{Left, left-all, left-end, left-fits, left-here, left-on, good-long, part-at}
+use borrow.Author.Needs.{needs}
+use Rattle.names.proofs.lookup.Statement.{statement}
+use Rattle.names.proofs.lookup.Tie as tie
+
+abbrev Inv-loop : tie.InvT-loop
+Inv-loop list first i₀ i = (i ≤ length list) × Left list first i
+
+abbrev μ-loop : tie.MeasureT-loop
+μ-loop list first i₀ i = length list - i
+
+-- what a turn of the loop starts from
+abbrev L : tie.In-loop Inv-loop μ-loop → List ℕ
+L c = now (c .before .before .before .args .list)
+
+abbrev wanted : tie.In-loop Inv-loop μ-loop → ℕ
+wanted c = c .before .before .before .args .first
+
+abbrev at : tie.In-loop Inv-loop μ-loop → ℕ
+at c = c .before .loop .i
+
+inside : (c : tie.In-loop Inv-loop μ-loop) → at c + 2 + getD (L c) (at c + 1) 0 ≤ length (L c)
+inside c = left-fits (L c) (wanted c) (at c) (c .before .loop .inv .1) (c .loop-test .taken)
+
+short : (c : tie.In-loop Inv-loop μ-loop) → length (L c) ≤ 8192
+short c = good-long (L c) (c .before .before .before .pre)
+
+-- the turn that a test belongs to
+abbrev turn : tie.After-number3 Inv-loop μ-loop → tie.In-loop Inv-loop μ-loop
+turn c = c .before .before .before .before .before
+
+loop-holds : tie.Need-loop-holds Inv-loop μ-loop
+loop-holds c = (omega arith, left-all _ _ (c .before .pre))
+
+add-start : tie.Need-add-start Inv-loop μ-loop
+add-start c = record { fits = omega (arith, inside c, short c) }
+
+add-number : tie.Need-add-number Inv-loop μ-loop
+add-number c = search needs
+
+shared-slice-read-number : tie.Need-shared-slice-read-number Inv-loop μ-loop
+shared-slice-read-number c = omega (arith, inside (c .before))
+
+number-requires : tie.Need-number-requires Inv-loop μ-loop
+number-requires c κs = search needs
+
+add-end : tie.Need-add-end Inv-loop μ-loop
+add-end c = search needs
+
+shared-slice-read-number-2 : tie.Need-shared-slice-read-number-2 Inv-loop μ-loop
+shared-slice-read-number-2 c = search needs
+
+number-requires-2 : tie.Need-number-requires-2 Inv-loop μ-loop
+number-requires-2 c κs = search needs
+
+number-requires-3 : tie.Need-number-requires-3 Inv-loop μ-loop
+number-requires-3 c κs = search needs
+
+sub-result : tie.Need-sub-result Inv-loop μ-loop
+sub-result c = omega arith
+
+part-result-start : tie.Need-part-result-start Inv-loop μ-loop
+part-result-start c = search needs
+
+part-result-end : tie.Need-part-result-end Inv-loop μ-loop
+part-result-end c = omega (arith, inside (turn (c .before)), c .before .before .before .before .number .ensures .0)
+
+returns : tie.Need-returns Inv-loop μ-loop
+returns c =
+    let k = turn (c .before .before) in
+    let n = c .before .before .before .before .before .number in
+    let b = c .before .before .before .number2 .ensures in
+    let size : at k + 2 + n .result - (at k + 2) ≡ getD (L k) (at k + 1) 0 = omega (arith, n .ensures .0) in
+    part-at _ _ _ (at k + 2) _
+    (left-here (L k) (wanted k) (at k) (k .before .loop .inv .1) (k .loop-test .taken) (b .1) (sym (b .0) ∙ c .before .if1 .taken ∙ c .before .before .number3 .ensures .0)
+    ∙ (λ j. record { start = at k + 2; size = sym size j }))
+    refl (omega arith) refl
+
+loop-less : tie.Need-loop-less Inv-loop μ-loop
+loop-less c = omega (arith, inside (turn (c .before)), c .before .before .before .before .number .ensures .0)
+
+loop-again : tie.Need-loop-again Inv-loop μ-loop
+loop-again c =
+    let k = turn (c .before) in
+    let n = c .before .before .before .before .number in
+    let b = c .before .before .number2 .ensures in (
+      omega (arith, inside k, n .ensures .0),
+      subst (λ (x : ℕ). Left (L k) (wanted k) (at k + 2 + x)) (sym (n .ensures .0))
+          (left-on (L k) (wanted k) (at k) (k .before .loop .inv .1) (k .loop-test .taken) (b .1) (λ e. c .if1 .left (b .0 ∙ e ∙ sym (c .before .number3 .ensures .0)))),
+    )
+
+sub-result-2 : tie.Need-sub-result-2 Inv-loop μ-loop
+sub-result-2 c = search needs
+
+part-result-start-2 : tie.Need-part-result-start-2 Inv-loop μ-loop
+part-result-start-2 c = search needs
+
+part-result-end-2 : tie.Need-part-result-end-2 Inv-loop μ-loop
+part-result-end-2 c = search needs
+
+returns-2 : tie.Need-returns-2 Inv-loop μ-loop
+returns-2 c =
+    let l = c .before .before .loop in
+    let list = now (c .before .before .before .before .args .list) in
+    part-at _ _ _ (l .i) 0
+    (left-end list (c .before .before .before .before .args .first) (l .i) (l .inv .1) (c .before .loop-test .left))
+    refl (omega arith) (part-all list (l .i) ∙ drop-of-length-le list (c .before .loop-test .left))
+
+pub lookup-spec : {M : Type 1} → statement M
+lookup-spec =
+    tie.close
+    (tie.spec
+    Inv-loop
+    μ-loop
+    loop-holds
+    add-start
+    add-number
+    shared-slice-read-number
+    number-requires
+    add-end
+    shared-slice-read-number-2
+    number-requires-2
+    number-requires-3
+    sub-result
+    part-result-start
+    part-result-end
+    returns
+    loop-less
+    loop-again
+    sub-result-2
+    part-result-start-2
+    part-result-end-2
+    returns-2)

@@ -1,0 +1,15 @@
+-- `names::size_outside` meets its contract.
+use borrow.Author.Tests.{lt-ltb, le-ltb}
+use mathlib.Core.Path.{refl}
+use Rattle.names.proofs.Lists.{or-here, or-next}
+use Rattle.names.proofs.size_outside.Statement.{statement}
+use Rattle.names.proofs.size_outside.Tie as tie
+
+returns : tie.Need-returns
+returns c = or-here _ (lt-ltb _ 1 (c .if1 .taken))
+
+returns-2 : tie.Need-returns-2
+returns-2 c = or-next (le-ltb _ 1 (c .if1 .left)) refl
+
+pub size-outside-spec : {M : Type 1} → statement M
+size-outside-spec = tie.close (tie.spec returns returns-2)
