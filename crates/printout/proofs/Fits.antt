@@ -8,6 +8,7 @@ use lib.ListN.{length, length-append, replicate, take}
 use lib.Seq.{take-append-seam}
 use lib.Dec.{lit≤}
 use Rattle.printout.specs.Text.{word, header-text, line-text, end-text, stop-text, room, text-of}
+use Rattle.printout.specs.Named.{named-header-text}
 use Rattle.printout.proofs.Digits.{length-decimal}
 
 pub text-held : (l : List ℕ) → take (text-of l .len) (text-of l .bytes) ≡ l
@@ -28,6 +29,10 @@ length-word (suc (suc (suc other))) = lit≤ tt
 pub header-fits : length header-text ≤ room
 unfolding header-text
 header-fits = lit≤ tt
+
+pub named-header-fits : length named-header-text ≤ room
+unfolding named-header-text
+named-header-fits = lit≤ tt
 
 pub line-fits : (number kind action stamp verdict open-count : ℕ) → length (line-text number kind action stamp verdict open-count) ≤ room
 unfolding line-text
