@@ -89,7 +89,7 @@ fn entry_broken(s: &[u8], least: usize) -> bool
 }
 
 // The whole list is checked, entry by entry.
-fn broken(list: &[u8]) -> bool
+pub fn broken(list: &[u8]) -> bool
     ensures { λ r. ⌜ r ≡ list-broken (now (list .entry)) ⌝ }
 {
     if MOST_BYTES < list.len() {

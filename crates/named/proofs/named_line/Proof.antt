@@ -1,0 +1,77 @@
+-- `named::named_line` meets its contract: the front of the line that was read, and its name behind it.
+use Prim.Native.Nat.{ℕ}
+use mathlib.Core.Path.{_≡_, _∙_, ap, ap₂}
+use mathlib.Core.List.{List}
+use native.Mathlib.Omega.{arith}
+use lib.ListN.{length}
+use denote.Ref.{now}
+use Rattle.printout.specs.Text.{text-of}
+use Rattle.printout.specs.Named.{front-text}
+use Rattle.printed.specs.Listing.{shown}
+use Rattle.named.specs.Named.{named-text-of}
+use Rattle.named.specs.Insert.{inserted, kind-as, action-as}
+use Rattle.named.proofs.Lines.{text-size, name-as-short, front-fits, line-long, with-its-name}
+use borrow.Author.Needs.{needs}
+use Rattle.named.proofs.named_line.Statement.{statement}
+use Rattle.named.proofs.named_line.Tie as tie
+
+-- the front is that of the record that was read
+front-long : (c : tie.After-name-of)
+    → c .before .front .result .len
+    ≡ length (front-text (c .before .before .before .before .before .before .before .before .args .number) (kind-as (c .before .before .before .before .read-record .result)) (action-as (c .before .before .before .before .read-record .result)))
+front-long c =
+    let k = c .before .before .before .before in
+    let number = k .before .before .before .before .args .number in
+    text-size (c .before .front .result) _
+    (c .before .front .ensures ∙ ap₂ (λ (a b : ℕ). text-of (front-text number a b)) (c .before .before .before .kind-of .ensures) (c .before .before .action-of .ensures))
+
+read-record-requires : tie.Need-read-record-requires
+read-record-requires c κs = search needs
+
+kind-of-requires : tie.Need-kind-of-requires
+kind-of-requires c κs = search needs
+
+action-of-requires : tie.Need-action-of-requires
+action-of-requires c κs = search needs
+
+front-requires : tie.Need-front-requires
+front-requires c κs = search needs
+
+name-of-requires : tie.Need-name-of-requires
+name-of-requires c κs = search needs
+
+with-name-requires : tie.Need-with-name-requires
+with-name-requires c κs =
+    let k = c .before .before .before .before in
+    let start = k .before .before .before .before in
+    let a = start .args in
+    let r = k .read-record .result in (
+      omega (
+        arith,
+        front-long c,
+        front-fits (now (a .site)) (now (a .release)) (now (a .bytes)) (a .before) (a .number) (a .line) (start .pre) r (k .read-record .ensures),
+      ),
+      line-long (now (a .site)) (now (a .release)) (now (a .bytes)) (a .before) (a .number) (a .line) (start .pre) r (k .read-record .ensures),
+      omega (arith, ap length (c .name-of .ensures), name-as-short (now (a .site)) (now (a .release)) r),
+    )
+
+returns : tie.Need-returns
+returns c l =
+    let k = c .before .before .before .before .before in
+    let a = k .before .before .before .before .args in
+    let r = k .read-record .result in
+    c .with-name .ensures
+    ∙ ap₂ (λ (n : ℕ) (name : List ℕ). named-text-of (inserted n name (shown (a .line)))) (front-long (c .before)) (c .before .name-of .ensures)
+    ∙ ap named-text-of (with-its-name (now (a .site)) (now (a .release)) (now (a .bytes)) (a .before) (a .number) (a .line) l r (k .read-record .ensures))
+
+pub named-line-spec : {M : Type 1} → statement M
+named-line-spec =
+    tie.close
+    (tie.spec
+    read-record-requires
+    kind-of-requires
+    action-of-requires
+    front-requires
+    name-of-requires
+    with-name-requires
+    returns)

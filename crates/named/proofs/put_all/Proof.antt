@@ -1,0 +1,55 @@
+-- `named::put_all` meets its contract. The loop's invariant: the first i bytes are put.
+use Prim.Native.Nat.{_-_, _≤_}
+use native.Mathlib.Omega.{arith}
+use lib.ListN.{length, take, length-take}
+use denote.Ref.{now}
+use borrow.Author.Needs.{needs}
+use Rattle.named.specs.Insert.{Behind}
+use Rattle.named.proofs.Growth.{none-behind, next, last}
+use Rattle.named.proofs.put_all.Statement.{statement}
+use Rattle.named.proofs.put_all.Tie as tie
+
+abbrev Inv-loop : tie.InvT-loop
+Inv-loop bytes r₀ i₀ r i = (i ≤ length bytes) × Behind r₀ (take i bytes) r
+
+abbrev μ-loop : tie.MeasureT-loop
+μ-loop bytes r₀ i₀ r i = length bytes - i
+
+loop-holds : tie.Need-loop-holds Inv-loop μ-loop
+loop-holds c = (search needs, none-behind _)
+
+shared-slice-read-put : tie.Need-shared-slice-read-put Inv-loop μ-loop
+shared-slice-read-put c = search needs
+
+put-requires : tie.Need-put-requires Inv-loop μ-loop
+put-requires c κs =
+    let l = c .before .before .loop in
+    omega (arith, l .inv .1 .longer, length-take (l .i) (now (c .before .before .before .before .args .bytes)))
+
+add-i : tie.Need-add-i Inv-loop μ-loop
+add-i c = search needs
+
+loop-less : tie.Need-loop-less Inv-loop μ-loop
+loop-less c = search needs
+
+loop-again : tie.Need-loop-again Inv-loop μ-loop
+loop-again c =
+    let l = c .before .before .before .loop in
+    (search needs, next _ (l .i) (search needs) (l .inv .1) (c .put .ensures))
+
+returns : tie.Need-returns Inv-loop μ-loop
+returns c = let l = c .before .loop in last _ (l .i) (c .loop-test .left) (l .inv .1)
+
+pub put-all-spec : {M : Type 1} → statement M
+put-all-spec =
+    tie.close
+    (tie.spec
+    Inv-loop
+    μ-loop
+    loop-holds
+    shared-slice-read-put
+    put-requires
+    add-i
+    loop-less
+    loop-again
+    returns)

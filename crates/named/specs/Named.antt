@@ -1,0 +1,66 @@
+-- Document 02, CR 2: "A second program .. prints the same listing with one more field behind the action number".
+use Prim.Native.Nat.{ℕ, _+_, _*_, _-_}
+use mathlib.Core.Bool.{Bool, true, false, cond, _||_}
+use mathlib.Core.List.{List, [], _++_}
+use lib.ListN.{length, replicate, getD}
+use lib.Dec.{ltb}
+use Rattle.meaning.specs.Words.{Action}
+use Rattle.meaning.specs.Calls.{Call}
+use Rattle.meaning.specs.Numbers.{given, first-of}
+use Rattle.record_form.specs.Record.{gap}
+use Rattle.cuts.specs.Arrays.{number-of}
+use Rattle.session_record.specs.declared.Session.{Session}
+use Rattle.session_record.specs.Record.{count-of, out-of-range}
+use Rattle.session_record.specs.Step.{standing}
+use Rattle.walk.specs.Walk.{One, one-of}
+use Rattle.printout.specs.Text.{end-text, stop-text}
+use Rattle.printout.specs.Named.{named-line-text}
+use Rattle.printed.specs.Printed.{one-after, kind-of, printed-of}
+use Rattle.names.specs.Names.{list-broken}
+use Rattle.names.specs.Lookup.{name-of}
+use Rattle.named.specs.declared.Named.{Named}
+use Rattle.named.specs.declared.NamedText.{NamedText}
+
+-- The bytes of an answer: a line without a name fits 96, and a name of 40 with the space before it is 41 more.
+abbrev pub named-room : ℕ
+named-room = 144
+
+-- The answer that holds a text: its bytes, zeros behind them, and their number.
+unfoldable pub named-text-of : List ℕ → NamedText
+named-text-of l = record { bytes = l ++ replicate (named-room - length l) 0; len = length l }
+
+-- The name of each action by the two lists.
+abbrev pub names-of : List ℕ → List ℕ → Action → List ℕ
+names-of site release (Action.input k) = name-of site release false k
+names-of site release (Action.output k) = name-of site release true k
+
+-- The line of a record that was taken as a call; a gap has no name.
+unfoldable pub named-call-text : (Action → List ℕ) → ℕ → Call → Session → List ℕ
+named-call-text names number (Call.line l) after =
+    named-line-text number (kind-of (l .action)) (number-of (l .action)) (names (l .action)) (l .stamp) (standing after) (count-of after)
+named-call-text names number (Call.mark g) after = named-line-text number gap 0 [] (g .stamp) (standing after) (count-of after)
+
+-- By what a record does to the session: the last line has no name and is as it was.
+unfoldable pub named-by-one : (Action → List ℕ) → ℕ → One → List ℕ
+named-by-one names count One.ended = end-text count
+named-by-one names count (One.refused n) = stop-text count n
+named-by-one names count (One.took c after) = named-call-text names (one-after count) c after
+
+-- What the record at the front of the bytes adds: all but its text is as in the listing without names.
+unfoldable pub named-of : List ℕ → List ℕ → Session → ℕ → List ℕ → Named
+named-of site release s count bytes =
+    record {
+      text = named-text-of (cond (out-of-range s) (stop-text count 10) (named-by-one (names-of site release) count (one-of s bytes)));
+      session = printed-of s count bytes .session;
+      count = printed-of s count bytes .count;
+      more = printed-of s count bytes .more;
+    }
+
+-- "the two lists, each behind two bytes of its length", most significant first
+abbrev pub list-size : List ℕ → ℕ
+list-size head = 256 * getD head 0 0 + getD head 1 0
+
+-- The refusal of a list by what was read of these two bytes and of the list: "7 if cut short", else the list's own number.
+unfoldable pub list-refusal : ℕ → List ℕ → List ℕ → ℕ
+list-refusal number head list =
+    first-of (given 7 (ltb (length head) 2 || ltb (length list) (list-size head))) (given number (list-broken list))
