@@ -16,14 +16,14 @@ use printout::Text;
 use property::Property;
 use session_record::Session;
 
-fn write_front(bytes: &[u8], len: usize) -> bool
+pub fn write_front(bytes: &[u8], len: usize) -> bool
     requires { ⌜ len ≤ length (now bytes) ⌝ }
 {
     io::write_all(STDOUT_FILENO, &bytes[..len])
 }
 
 // Writes a line at once: who reads the listing sees it before the next record comes.
-fn write(text: Text) -> bool
+pub fn write(text: Text) -> bool
     requires { ⌜ text .len ≤ room ⌝ }
 {
     let bytes = text.bytes;
@@ -31,7 +31,7 @@ fn write(text: Text) -> bool
 }
 
 // Writes what was added, and answers whether the listing goes on. One that cannot be written does not.
-fn shown(text: Text, more: bool) -> bool
+pub fn shown(text: Text, more: bool) -> bool
     requires { ⌜ text .len ≤ room ⌝ }
     ensures { λ r. ⌜ (r ≡ true → more ≡ true) ⌝ }
 {
@@ -55,7 +55,7 @@ fn read_form(fd: i32, form: &mut [u8]) -> usize
 }
 
 // Reads the property.
-fn begun(fd: i32) -> Printed
+pub fn begun(fd: i32) -> Printed
     ensures { λ r. ⌜ (r .text .len ≤ room) × (r .more ≡ true → Ready (r .session)) ⌝ }
 {
     let mut form = [0u8; 71];

@@ -1,0 +1,21 @@
+-- `named_listing::shown` is safe: the text is no longer than its room.
+use native.Mathlib.Omega.{arith}
+use borrow.Author.Needs.{needs}
+use Rattle.named_listing.proofs.shown.Statement.{statement}
+use Rattle.named_listing.proofs.shown.Tie as tie
+
+slice-aggregate-write-front : tie.Need-slice-aggregate-write-front
+slice-aggregate-write-front c = search needs
+
+write-front-requires : tie.Need-write-front-requires
+write-front-requires c κs = omega (arith, slice-aggregate-write-front c)
+
+returns : tie.Need-returns
+returns c = search needs
+
+returns-2 : tie.Need-returns-2
+returns-2 c = search needs
+
+pub shown-spec : {M : Type 1} → statement M
+shown-spec =
+    tie.close (tie.spec slice-aggregate-write-front write-front-requires returns returns-2)

@@ -1,0 +1,103 @@
+// The second printing program, of document 02, CR 2: reads two lists of names from standard input, each behind two bytes of its length,
+// then a packed property and records, up to the end record and no further, and writes their listing with names to standard output.
+// What is written, the crate `named` says.
+ghost use Prim.Native.Nat.{_≤_};
+ghost use lib.ListN.{length};
+ghost use Rattle.io.specs.Counts.{Counts};
+ghost use Rattle.named.specs.Named.{named-room};
+use named::NamedText;
+use session_record::Session;
+
+// What was read of a list, and its refusal.
+struct ListRead {
+    refusal: u64,
+    len: usize,
+}
+
+// Reads so many bytes to the front of `list`, or fewer where the input ends.
+fn read_front(fd: i32, list: &mut [u8], size: usize) -> usize
+    requires { ⌜ size ≤ length (now list) ⌝ }
+    ensures { λ r. ⌜ Counts r (now (list .exit)) ⌝ }
+{
+    io::read_full(fd, &mut list[..size])
+}
+
+// Reads a list. Input that ends early and a read that fails leave fewer bytes, which is then refused.
+fn read_list(fd: i32, of_release: bool, list: &mut [u8]) -> ListRead
+    requires { ⌜ 65536 ≤ length (now list) ⌝ }
+    ensures { λ r. ⌜ Counts (r .len) (now (list .exit)) ⌝ }
+{
+    let mut head = [0u8; 2];
+    let got = io::read_full(fd, &mut head);
+    let size = named::list_size(head[0], head[1]);
+    let len = read_front(fd, list, size);
+    ListRead {
+        refusal: named::list_refused(of_release, &head[..got], &list[..len]),
+        len: len,
+    }
+}
+
+// Writes a line at once, and answers whether the listing goes on. One that cannot be written does not.
+fn shown(text: NamedText, more: bool) -> bool
+    requires { ⌜ text .len ≤ named-room ⌝ }
+{
+    let bytes = text.bytes;
+    if listing_shell::write_front(&bytes, text.len) {
+        return more;
+    }
+    false
+}
+
+// Lists the records. A proved loop has to end, and nothing says that the input does: the loop counts its turns down, from a number
+// that no run uses up.
+fn records<'a>(fd: i32, site: &'a [u8], release: &'a [u8], s: Session) {
+    let mut session = s;
+    let mut count = 0;
+    let mut turns = u64::MAX;
+    while turns > 0 {
+        let mut bytes = [0u8; 6];
+        let got = io::read_full(fd, &mut bytes);
+        let r = named::record(site, release, session, count, &bytes[..got]);
+        if !shown(r.text, r.more) {
+            return;
+        }
+        session = r.session;
+        count = r.count;
+        turns -= 1;
+    }
+}
+
+// Lists what stands behind the two lists.
+fn log<'a>(fd: i32, site: &'a [u8], release: &'a [u8]) {
+    let b = listing_shell::begun(fd);
+    if listing_shell::shown(b.text, b.more) {
+        records(fd, site, release, b.session);
+    }
+}
+
+// A list that is refused ends the listing.
+fn stop(refusal: u64) {
+    listing_shell::write(printout::stop(0, refusal));
+}
+
+fn main() {
+    let fd = libc::STDIN_FILENO;
+    if !listing_shell::write(printout::named_header()) {
+        return;
+    }
+    let mut site = io::large_buffer();
+    let own = read_list(fd, false, &mut site);
+    if own.refusal != 0 {
+        stop(own.refusal);
+        return;
+    }
+    let mut release = io::large_buffer();
+    let other = read_list(fd, true, &mut release);
+    if other.refusal != 0 {
+        stop(other.refusal);
+        return;
+    }
+    let site_len = own.len;
+    let release_len = other.len;
+    log(fd, &site[..site_len], &release[..release_len]);
+}
