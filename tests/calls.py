@@ -349,6 +349,12 @@ def S(kind, action, stamp, before, buffer, want=0):
         lambda c: same("the answer", c.answer("S"), [str(want), hexed(left)]))
 
 
+def N(act, site, release, want=0, name=b""):
+    count("N", want)
+    add("N", bytes([int(act[0] == "!"), int(act[1:])]) + string(site) + string(release),
+        lambda c: same("the answer", c.answer("N"), [str(want), hexed(name)]))
+
+
 def marked(n):
     """A buffer with a byte of its own at each place."""
     return bytes((7 * i + 161) % 256 for i in range(n))
@@ -915,9 +921,59 @@ def judge():
     J(b, rec(2, 0, 0) * 16384 + END, 0, 3, 16384)
 
 
+def entry(act, name):
+    """An entry, of any name."""
+    return bytes([int(act[1:]) + 128 * (act[0] == "!"), len(name)]) + name
+
+
+def names():
+    title("names: the site's list first, the release's second, none")
+    site = entry("?0", b"ours") + entry("!2", b"old-tile")
+    release = entry("?0", b"switch") + entry("?2", b"wanted") + entry("!0", b"ok") + entry("!63", b"#~!")
+    N("?0", site, release, 0, b"ours")
+    N("!0", site, release, 0, b"ok")
+    N("?2", site, release, 0, b"wanted")
+    N("!2", site, release, 0, b"old-tile")
+    N("!63", site, release, 0, b"#~!")
+    N("?63", site, release)
+    N("?0", release, site, 0, b"switch")
+    for act in ("?0", "!0", "?63", "!63"):
+        N(act, b"", b"")
+        N(act, site, b"", 0, b"ours" if act == "?0" else b"")
+        N(act, b"", release, 0, {"?0": b"switch", "!0": b"ok", "!63": b"#~!"}.get(act, b""))
+    title("names: the action first, then the site's list, then the release's")
+    broken = entry("?5", b"")
+    for act in ("?64", "!64", "?127", "!128", "!255"):
+        N(act, site, release, 3)
+        N(act, broken, broken, 3)
+    N("?63", broken, broken, 11)
+    N("?0", broken, release, 11)
+    N("?0", site, broken, 12)
+    title("names: the lists are checked whole, also behind the entry that is found")
+    for bad in (b"\x01", entry("?1", b"x")[:-1], b"\x01\x02x", entry("?1", b""), entry("?1", b"x" * 41), b"\x01\xffx", entry("?1", b"a b"), entry("?1", b"\x20"),
+                entry("?1", b"\x7f"), entry("?1", b"x\x80"), entry("?1", b"x\0"), entry("?0", b"again"), entry("?1", b"x") * 2, entry("?2", b"x") + entry("?1", b"x"),
+                entry("!1", b"x") + entry("?2", b"x"), b"\x40\x01x", b"\x7f\x01x", b"\xc0\x01x", b"\xff\x01x", entry("!0", b"x") + b"\xc1\x01x"):
+        N("?0", entry("?0", b"ours") + bad, release, 11)
+        N("?0", site, entry("?0", b"switch") + bad, 12)
+        if bad != entry("?0", b"again"):
+            N("?0", bad, b"", 11)
+            N("?9", b"", bad, 12)
+    title("names: each byte and each length that a name may have")
+    for b in (32, 33, 126, 127):
+        N("!7", b"", entry("!7", bytes([b])), 0 if 33 <= b <= 126 else 12, bytes([b]) if 33 <= b <= 126 else b"")
+    for size in (1, 2, 39, 40, 41, 255):
+        N("!7", entry("!7", b"n" * size), b"", 0 if size <= 40 else 11, b"n" * size if size <= 40 else b"")
+    title("names: all actions, and the longest list")
+    every = b"".join(entry("%s%d" % (way, k), b"name-%d" % k) for way in "?!" for k in range(64))
+    for act in ("?63", "!0"):
+        N(act, every, b"", 0, b"name-" + act[1:].encode())
+    long = b"".join(entry("%s%d" % (way, k), b"n" * 40) for way in "?!" for k in range(64))
+    N("!63", b"", long, 0, b"n" * 40)
+
+
 def build():
     for part in (at_the_start, properties, cases, drawn, lines, room, records_of_no_calls, walks, record_reader, record_writer,
-                 property_reader, judge):
+                 property_reader, judge, names):
         part()
 
 
@@ -934,7 +990,7 @@ def check(text):
             if wrong == 10 or not isinstance(error, Wrong):
                 return False
             # to the next answer
-            letters = set("FLGWJPQRSVT?")
+            letters = set("FLGWJPQRSVTN?")
             while c.at < len(c.lines) and c.lines[c.at][:2].strip() not in letters:
                 c.at += 1
     if c.lines[c.at:] != [""]:
@@ -970,7 +1026,7 @@ def main():
                 sys.exit(1)
     calls = [call for call in CALLS if call[0]]
     print("calls: %d calls in %d bytes answered as expected:" % (len(calls), len(script)))
-    for name in "FLGWJPQRSVT":
+    for name in "FLGWJPQRSVTN":
         print("  %s %s" % (name, ", ".join("%s %d" % ("taken" if want == 0 else "refusal %d" % want, n)
                                            for (of, want), n in sorted(kv for kv in COUNTS.items() if kv[0][0] == name))))
     print("  sessions held against all orders of their run: %d" % LISTED[0])

@@ -1,4 +1,4 @@
-// The calls that have nothing to do with a session: the judge, the packed forms, and the refusal of a property.
+// The calls that have nothing to do with a session: the judge, names, the packed forms, and the refusal of a property.
 use property::Property;
 use property_form::Written;
 use record_form::RecordRead;
@@ -120,6 +120,20 @@ fn refused(args: &[u8], out: &mut Page) -> Done {
     leave(arguments::behind(args, script::PROPERTY), printed)
 }
 
+// The refusal of a lookup in a site's and a release's list, and the name.
+fn name_of(args: &[u8], out: &mut Page) -> Done {
+    let output = arguments::flag(args, 0);
+    let action = arguments::byte(args, 1);
+    let given = arguments::behind(args, 2);
+    let site = arguments::string(given);
+    let others = arguments::string_rest(given);
+    let release = arguments::string(others);
+    let numbers = [names::refused(site, release, output, action)];
+    let told = text::put_numbers(out, 0, b"N", &numbers);
+    let printed = text::put_hex(out, told, names::name(site, release, output, action));
+    leave(arguments::string_rest(others), printed)
+}
+
 // No call has this name: nothing behind it is read.
 fn unknown(name: u8, out: &mut Page) -> Done {
     let numbers = [fields::wide(name)];
@@ -133,6 +147,7 @@ fn unknown(name: u8, out: &mut Page) -> Done {
 pub fn call(name: u8, args: &[u8], out: &mut Page) -> Done {
     match name {
         b'J' => judge(args, out),
+        b'N' => name_of(args, out),
         b'P' => read_property(args, out),
         b'Q' => write_property(args, out),
         b'R' => read_record(args, out),
