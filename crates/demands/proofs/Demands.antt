@@ -44,6 +44,7 @@ use Rattle.printout.specs.Text.{header-text, stop-text, text-of}
 use Rattle.printed.specs.Printed.{printed-of}
 use Rattle.printed.specs.Listing.{listing-of}
 pub use Rattle.printed.proofs.Whole.{listing-taken, listing-refused, counted as listing-count}
+use Rattle.demands.specs.Refuses.{Refuses}
 use Rattle.demands.specs.Uses.{Use, session-through}
 use Rattle.demands.specs.Traces.{entry-of, first-met}
 use Rattle.demands.proofs.Running.{running, seen, running-number, running-range}
@@ -59,6 +60,8 @@ pub use Rattle.record_form.proofs.Trace.{trace-reads-back, trace-writes-back, t
 pub use Rattle.demands.proofs.Written.{written-trace}
 pub use Rattle.demands.proofs.Digits.{decimal-reads}
 pub use Rattle.demands.proofs.Forms.{begins-one-packing}
+-- Names (document 02, CR 2), in `Names`: the lists, `names::refused` and `name`, the listing with names.
+pub use Rattle.demands.proofs.Names.{list-taken, list-back, list-one-packing, one-entry, demand-1-names, demand-name, demand-1-lists, demand-named}
 
 -- ==== Demand 2, over the meaning. "After each line taken while the watcher isn't blind, the verdict on the run is exact."
 module _ (p : PropertyMeant) (good : property-refusal p ≡ 0) where
@@ -118,11 +121,8 @@ module _ (p : PropertyMeant) (good : property-refusal p ≡ 0) where
 
 -- ==== Demand 1. "For all bytes, numbers and call orders each call ends with its answer or a numbered refusal, given exactly when the
 -- rules say so. What is refused alters neither the session nor any buffer; lines taken earlier in the same call stay taken."
--- That each call ends is proved of every function. Its number is the first of the table's order that holds, 0 for none; where it is
--- not 0 the whole answer, and all that was lent, is as `Alone` says.
-pub record Refuses (number order : ℕ) (Alone : ℕ → Type 0) : Type 0 where
-  pub first : number ≡ order
-  pub alone : (n : ℕ) → number ≡ suc n → Alone (suc n)
+-- That each call ends is proved of every function. `Refuses number order Alone`: the number is the first of the table's order that
+-- holds, and where it is not 0 the whole answer, and all that was lent, is as `Alone` says.
 
 -- `line` and `mark`, on any record, also one that no calls made: 10, then those of the step; zeros, and the session as it was.
 pub demand-1 : (s : Session) (c : Call)

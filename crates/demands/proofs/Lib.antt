@@ -10,3 +10,5 @@ pub mod Written
 pub mod Forms
 pub mod Digits
 pub mod Listing
+pub mod Named
+pub mod Names

@@ -1,10 +1,12 @@
--- Whatever the input, a text that is added to the listing fits its room: what a caller needs to write it out.
-use Prim.Native.Nat.{ℕ, _≤_}
-use mathlib.Core.Path.{sym, subst}
+-- Whatever the input, a text that is added to the listing fits its room, and an answer's first `len` bytes are its text: what a caller
+-- needs to write it out.
+use Prim.Native.Nat.{ℕ, _-_, _≤_}
+use mathlib.Core.Path.{_≡_, subst}
 use mathlib.Core.Bool.{Bool, true, false, cond}
 use mathlib.Core.List.{List, []}
 use native.Mathlib.Omega.{arith}
-use lib.ListN.{length}
+use lib.ListN.{length, replicate}
+use lib.Seq.{take-append-seam}
 use Rattle.meaning.specs.Words.{Action}
 use Rattle.meaning.specs.Calls.{Call}
 use Rattle.session_record.specs.declared.Session.{Session}
@@ -15,8 +17,13 @@ use Rattle.printout.specs.Named.{front-text, named-line-text}
 use Rattle.printout.proofs.Fits.{line-fits, end-fits, stop-fits}
 use Rattle.names.proofs.Named.{name-short}
 use Rattle.named.specs.Named.{named-room, named-text-of, names-of, named-call-text, named-by-one, named-of}
+use Rattle.named.specs.Listing.{named-shown}
 use Rattle.named.proofs.Growth.{inserted-long}
 use Rattle.named.proofs.Lines.{inserted-line}
+
+pub named-held : (l : List ℕ) → named-shown (named-text-of l) ≡ l
+unfolding named-text-of
+named-held l = take-append-seam l (replicate (named-room - length l) 0)
 
 line-held : (number kind action : ℕ) (name : List ℕ) (stamp verdict open-count : ℕ) → length name ≤ 40
     → length (named-line-text number kind action name stamp verdict open-count) ≤ named-room

@@ -5,4 +5,5 @@ pub mod Spans
 pub mod Handing
 pub mod Packed
 pub mod Named
+pub mod Places
 pub mod Determined

@@ -197,7 +197,7 @@ packed-good es r h =
 
 -- ---- at most one entry for an action
 
-behind-above : (least : ℕ) (ys : List Entry) (f : Entry) (zs : List Entry) → Rising least (ys ++ (f ∷ zs)) → least ≤ first-byte (f .action)
+pub behind-above : (least : ℕ) (ys : List Entry) (f : Entry) (zs : List Entry) → Rising least (ys ++ (f ∷ zs)) → least ≤ first-byte (f .action)
 unfolding Rising
 behind-above least [] f zs r = r .0
 behind-above least (y ∷ ys) f zs r = omega (arith, r .0, behind-above (suc (first-byte (y .action))) ys f zs (r .2))
