@@ -38,7 +38,7 @@ first-byte-requires : tie.Need-first-byte-requires
 first-byte-requires c κs = good c .action-fits
 
 found-requires : tie.Need-found-requires
-found-requires c κs = (good (c .before) .site-good, good (c .before) .release-good)
+found-requires c κs = let g = good (c .before) in search (needs, g .site-good, g .release-good)
 
 returns-2 : tie.Need-returns-2
 returns-2 c =
