@@ -1,8 +1,8 @@
 -- The listing with names has the rows of the listing without, and its last line.
 use Prim.Native.Nat.{ℕ, zero, suc, _+_}
-use mathlib.Core.Path.{_≡_, refl, sym, _∙_, ap, ap₂, subst}
+use mathlib.Core.Path.{_≡_, refl, sym, _∙_, ap, subst}
 use mathlib.Core.Bool.{Bool, true, false, cond}
-use mathlib.Core.List.{List, [], _∷_, _++_, append-assoc, append-nil}
+use mathlib.Core.List.{List, [], _∷_, _++_, append-assoc}
 use lib.ListN.{length, take, drop}
 use lib.Dec.{eqb, eqb·suc-zero}
 use Rattle.meaning.specs.Words.{Action}
@@ -13,17 +13,17 @@ use Rattle.cuts.specs.Arrays.{number-of}
 use Rattle.session_record.specs.declared.Session.{Session}
 use Rattle.session_record.specs.Record.{count-of, out-of-range}
 use Rattle.session_record.specs.Step.{standing}
-use Rattle.walk.specs.Walk.{One, one-of}
-use Rattle.printout.specs.Text.{line-text, header-text, stop-text, text-of}
-use Rattle.printout.specs.Named.{named-line-text, named-header-text}
+use Rattle.walk.specs.Walk.{one-of}
+use Rattle.printout.specs.Text.{header-text, stop-text, text-of}
+use Rattle.printout.specs.Named.{named-line-text}
 use Rattle.printout.proofs.Fits.{text-held}
 use Rattle.printed.specs.declared.Printed.{Printed}
-use Rattle.printed.specs.Printed.{one-after, kind-of, call-text, printed-of, opening-text, begun-of}
+use Rattle.printed.specs.Printed.{kind-of, call-text, printed-of, opening-text, begun-of}
 use Rattle.printed.specs.Listing.{shown, and-more, lines-of, records-text, listing-of}
-use Rattle.named.specs.Named.{names-of, named-text-of, named-call-text, named-by-one, named-of}
-use Rattle.named.specs.Listing.{named-shown, named-lines-of, named-log}
+use Rattle.named.specs.Named.{names-of, named-call-text, named-by-one, named-of}
+use Rattle.named.specs.Listing.{named-lines-of, named-log}
 use Rattle.named.proofs.Fits.{named-held}
-use Rattle.named.proofs.Lines.{Took, took, took-same, last-same}
+use Rattle.named.proofs.Lines.{took, took-same, last-same}
 use Rattle.demands.specs.Names.{Row, name-by, plain-row, named-row, all-rows, SameRows}
 
 -- the row of a call that was taken
@@ -119,6 +119,8 @@ module _ (site release : List ℕ) where
       → (plain : List ℕ) × (listing-of property records ≡ header-text ++ plain) × SameRows names plain (named-log site release property records)
   unfolding listing-of named-log begun-of
   same-log property records =
-      let b = begun-of property in
-      (and-more b (records-text (b .session) (b .count) records), refl,
-      begun-same property (read property .refusal) _ _ (same-lines (suc (length records)) (b .session) (b .count) records))
+      let b = begun-of property in (
+        and-more b (records-text (b .session) (b .count) records),
+        refl,
+        begun-same property (read property .refusal) _ _ (same-lines (suc (length records)) (b .session) (b .count) records),
+      )

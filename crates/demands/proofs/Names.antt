@@ -1,11 +1,11 @@
 -- Document 02, CR 2, as theorems: the lists of names, `names::refused` and `names::name`, and the listing with names.
 use Prim.Native.Nat.{ℕ, zero, suc, _+_, _*_, _-_, _≤_, min}
-use mathlib.Core.Path.{_≡_, refl, sym, _∙_, ap, ap₂, subst}
+use mathlib.Core.Path.{_≡_, refl, sym, _∙_, ap, ap₂}
 use mathlib.Core.Bool.{Bool, true, false, cond, _||_}
 use mathlib.Core.List.{List, [], _∷_, _++_}
 use native.Mathlib.Nat.{zero-add}
 use native.Mathlib.Omega.{arith}
-use lib.ListN.{length, take, drop, getD, length-take, length-drop}
+use lib.ListN.{length, take, drop, length-take, length-drop}
 use lib.Seq.{getD-take}
 use lib.Dec.{ltb}
 use borrow.Author.Tests.{ltb-true, ltb-false, lt-ltb, le-ltb}
@@ -13,15 +13,17 @@ use Rattle.meaning.specs.Words.{Action}
 use Rattle.meaning.specs.Numbers.{given, first-of}
 use Rattle.property.specs.Meant.{action-of}
 use Rattle.record_form.specs.Record.{Bytes}
-use Rattle.names.specs.Names.{Entry, first-byte, list-form, entries, list-broken, name-in, action-number, Rising}
-use Rattle.names.specs.Lookup.{names-refusal, Span, Choice, choice, name-of}
+use Rattle.names.specs.Names.{Entry, first-byte, list-form, entries, list-broken, names-in, action-number, Rising}
+use Rattle.names.specs.Lookup.{names-refusal, choice, name-of}
 use Rattle.names.proofs.Spans.{good-long}
 use Rattle.names.proofs.Packed.{good-packs, packed-good}
 use Rattle.names.proofs.Handing.{number-is, choice-refused}
 use Rattle.names.proofs.Named.{either-name, name-is}
 use Rattle.names.proofs.Places.{span, of-site, of-release, of-neither}
--- Two lists that are taken with the same entries are the same bytes; an action has at most one entry.
+-- Two lists that are taken with the same entries, or that give every action the same name, are the same bytes; an action has at most one
+-- entry.
 pub use Rattle.names.proofs.Packed.{one-packing as list-one-packing, one-entry}
+pub use Rattle.names.proofs.Meaning.{one-list}
 use Rattle.printout.specs.Text.{header-text, stop-text}
 use Rattle.printout.specs.Named.{named-header-text}
 use Rattle.printed.specs.Listing.{listing-of}
@@ -55,14 +57,14 @@ pub record Demand-name (site release : List ℕ) (output : Bool) (action : ℕ) 
   pub own : (xs : List Entry) (e : Entry) (ys : List Entry) → entries site ≡ xs ++ (e ∷ ys) → e .action ≡ action-of output action
       → choice site release output action ≡ record { of-site = true; part = span (length (list-form xs) + 2) (length (e .name)) }
   -- where the site's list has none, that of the release's entry;
-  pub other : name-in (entries site) (action-of output action) ≡ [] → (xs : List Entry) (e : Entry) (ys : List Entry) → entries release ≡ xs ++ (e ∷ ys)
+  pub other : names-in site (action-of output action) ≡ [] → (xs : List Entry) (e : Entry) (ys : List Entry) → entries release ≡ xs ++ (e ∷ ys)
       → e .action ≡ action-of output action
       → choice site release output action ≡ record { of-site = false; part = span (length (list-form xs) + 2) (length (e .name)) }
   -- "an empty part at the end of the release's list where neither has it";
-  pub neither : name-in (entries site) (action-of output action) ≡ [] → name-in (entries release) (action-of output action) ≡ []
+  pub neither : names-in site (action-of output action) ≡ [] → names-in release (action-of output action) ≡ []
       → choice site release output action ≡ record { of-site = false; part = span (length release) 0 }
   -- and its bytes are the name.
-  pub bytes : name-of site release output action ≡ either-name (name-in (entries site) (action-of output action)) (name-in (entries release) (action-of output action))
+  pub bytes : name-of site release output action ≡ either-name (names-in site (action-of output action)) (names-in release (action-of output action))
 
 first-same : (output : Bool) (action : ℕ) → cond output 128 0 + action ≡ first-byte (action-of output action)
 first-same true action = refl
@@ -122,7 +124,7 @@ good number head list z = go (ltb (length head) 2 || ltb (length list) (list-siz
 
 -- the names by two lists that are not broken
 names-by : (site release : List ℕ) → list-broken site ≡ false → list-broken release ≡ false → Bytes site → Bytes release → (a : Action) → action-number a ≤ 63
-    → names-of site release a ≡ either-name (name-in (entries site) a) (name-in (entries release) a)
+    → names-of site release a ≡ either-name (names-in site a) (names-in release a)
 names-by site release gs gr ss sr (Action.input k) h =
     name-is site release ss sr (Action.input k) false k (zero-add k) (number-is site release k false false false (le-ltb 63 k h) gs gr)
 names-by site release gs gr ss sr (Action.output k) h =
@@ -155,7 +157,7 @@ module _ (input : List ℕ) where
         × SameRows (names-of site release) plain named
     -- and the names are those of the lists.
     pub names : site-number ≡ 0 → release-number ≡ 0 → Bytes site → Bytes release → (a : Action) → action-number a ≤ 63
-        → names-of site release a ≡ either-name (name-in (entries site) a) (name-in (entries release) a)
+        → names-of site release a ≡ either-name (names-in site a) (names-in release a)
 
   -- by the numbers of the two lists
   abbrev by : ℕ → ℕ → List ℕ

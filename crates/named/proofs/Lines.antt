@@ -4,14 +4,13 @@ use mathlib.Core.Path.{_≡_, refl, sym, _∙_, ap, subst}
 use mathlib.Core.Bool.{Bool, true, false, cond, true≢false}
 use mathlib.Core.List.{List, [], _∷_, _++_, append-assoc}
 use native.Mathlib.Omega.{arith}
-use lib.ListN.{length, take, drop, length-append}
+use lib.ListN.{length, length-append}
 use lib.Seq.{take-append-seam, drop-append-seam}
 use Rattle.meaning.specs.Words.{Action}
 use Rattle.meaning.specs.Calls.{Call, mark-at}
 use Rattle.record_form.specs.Record.{record-answer, IsRead}
 use Rattle.record_form.proofs.ReadAs.{read-case}
 use Rattle.record_form.specs.ReadAs.{ReadAs, case-as, read-as}
-use Rattle.record_form.specs.Trace.{Entry, entry-call}
 use Rattle.record_form.specs.declared.RecordRead.{RecordRead}
 use Rattle.record_form.specs.declared.RecordRead.the-variants.{Input, Output, Gap, End, Refused}
 use Rattle.session_record.specs.declared.Session.{Session}

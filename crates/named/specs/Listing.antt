@@ -1,9 +1,8 @@
 -- Document 02, CR 2: the whole listing that the second program writes.
 use Prim.Native.Nat.{ℕ, zero, suc}
 use mathlib.Core.Bool.{cond}
-use mathlib.Core.List.{List, [], _∷_, _++_}
+use mathlib.Core.List.{List, [], _++_}
 use lib.ListN.{length, take, drop}
-use Rattle.meaning.specs.Words.{Action}
 use Rattle.property_form.specs.Form.{form-size}
 use Rattle.property_form.specs.Read.{length-read}
 use Rattle.record_form.specs.Record.{record-size}
@@ -12,7 +11,6 @@ use Rattle.printout.specs.Text.{stop-text}
 use Rattle.printout.specs.Named.{named-header-text}
 use Rattle.printed.specs.Printed.{begun-of}
 use Rattle.printed.specs.Listing.{and-more}
-use Rattle.named.specs.declared.Named.{Named}
 use Rattle.named.specs.declared.NamedText.{NamedText}
 use Rattle.named.specs.Named.{named-of, list-size, list-refusal}
 

@@ -1,6 +1,6 @@
 -- Document 02, CR 2: "A second program .. prints the same listing with one more field behind the action number".
 use Prim.Native.Nat.{ℕ, _+_, _*_, _-_}
-use mathlib.Core.Bool.{Bool, true, false, cond, _||_}
+use mathlib.Core.Bool.{true, false, cond, _||_}
 use mathlib.Core.List.{List, [], _++_}
 use lib.ListN.{length, replicate, getD}
 use lib.Dec.{ltb}

@@ -1,12 +1,12 @@
 -- Which refusal, and which part of which list is handed back.
-use Prim.Native.Nat.{ℕ, zero, suc, _+_, _-_, _≤_, _<_}
+use Prim.Native.Nat.{ℕ, _+_, _-_, _≤_}
 use mathlib.Core.Path.{_≡_, refl, sym, _∙_, ap, subst}
 use mathlib.Core.Bool.{Bool, true, false, cond}
 use mathlib.Core.List.{List}
 use native.Mathlib.Omega.{arith}
 use lib.ListN.{length, take, drop, length-take, length-drop}
 use lib.Seq.{drop-length}
-use lib.Dec.{ltb, eqb}
+use lib.Dec.{ltb}
 use denote.Ref.{RefT, ptr, now}
 use borrow.Author.Tests.{ltb-false, eq-eqb, ne-eqb}
 use Rattle.meaning.specs.Numbers.{given, first-of}

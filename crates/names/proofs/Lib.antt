@@ -6,4 +6,5 @@ pub mod Handing
 pub mod Packed
 pub mod Named
 pub mod Places
+pub mod Meaning
 pub mod Determined

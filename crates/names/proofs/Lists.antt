@@ -1,16 +1,16 @@
 -- The laws of a list's entries, one entry at a time.
 use Prim.Native.Nat.{ℕ, zero, suc, _+_, _-_, _/_, _%_, _≤_, _<_}
 use mathlib.Core.Path.{_≡_, refl, sym, _∙_, ap, ap₂}
-use mathlib.Core.Bool.{Bool, true, false, _&&_, _||_, not, cond, true≢false}
-use mathlib.Core.List.{List, [], _∷_, _++_}
+use mathlib.Core.Bool.{Bool, true, false, _&&_, _||_, cond, true≢false}
+use mathlib.Core.List.{List, [], _∷_}
 use native.Mathlib.Nat.{add-zero}
 use native.Mathlib.Omega.{arith}
 use lib.ListN.{length, take, drop, getD, length-drop, drop-of-length-le}
-use lib.Dec.{ltb, eqb}
+use lib.Dec.{ltb}
 use lib.Seq.{length-take-le, take-all, drop-cons, drop-drop, getD-drop}
 use borrow.Author.Tests.{ltb-false, eqb-true, lt-ltb, le-ltb, not-false}
 use Rattle.laws.proofs.Tests.{or-split}
-use Rattle.names.specs.Names.{Entry, first, name-size, entry-size, name-read, any-outside, zero-bit-set, size-outside, entry-broken, entries-broken, entry-read, entries-read}
+use Rattle.names.specs.Names.{first, name-size, entry-size, name-read, any-outside, zero-bit-set, size-outside, entry-broken, entries-broken, entry-read, entries-read}
 
 pub broken-step : (most least : ℕ) (l : List ℕ) → 0 < length l
     → entries-broken (suc most) least l ≡ entry-broken least l || entries-broken most (suc (first l)) (drop (entry-size l) l)

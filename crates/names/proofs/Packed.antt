@@ -5,14 +5,15 @@ use mathlib.Core.Path.{_≡_, refl, sym, _∙_, ap, ap₂, subst}
 use mathlib.Core.Bool.{Bool, true, false, _||_, not, cond}
 use mathlib.Core.List.{List, [], _∷_, _++_}
 use native.Mathlib.Omega.{arith}
-use lib.ListN.{length, take, drop, getD, length-append, length-drop, take-append-drop}
+use lib.ListN.{length, drop, getD, length-append, take-append-drop}
 use lib.Seq.{drop-drop, getD-drop, take-append-seam, drop-append-seam}
 use lib.Dec.{ltb, eqb}
 use borrow.Author.Tests.{ltb-true, ltb-false, le-ltb, eq-eqb, ne-eqb}
 use Rattle.laws.proofs.Tests.{or-split, neither}
 use Rattle.meaning.specs.Words.{Action}
-use Rattle.names.specs.Names.{Entry, first-byte, entry-form, list-form, first, name-size, entry-size, name-read, any-outside, zero-bit-set, size-outside, entry-broken, entries-broken, list-broken, action-read, entry-read, entries-read, entries, AllInside, action-number, EntryGood, Rising}
-use Rattle.names.proofs.Lists.{Whole, Good, good-step, broken-step, broken-end, read-step, read-end, name-long}
+use Rattle.names.specs.Names.{Entry, first-byte, entry-form, list-form, action-read, entry-read, entries-read, entries, AllInside, action-number, EntryGood, Rising}
+use Rattle.names.specs.Names.{first, name-size, entry-size, name-read, any-outside, entry-broken, entries-broken, list-broken}
+use Rattle.names.proofs.Lists.{Whole, good-step, broken-step, broken-end, read-step, read-end, name-long}
 use Rattle.names.proofs.Spans.{byte-read, good-entries}
 
 -- ---- the bytes of a name

@@ -1,13 +1,12 @@
 -- Document 02, CR 2: "the name is handed back as a part of whichever list held it, or as an empty part at the end of the release's
 -- list where neither has it or the call is refused."
-use Prim.Native.Nat.{ℕ, zero, suc, _+_}
+use Prim.Native.Nat.{ℕ, _+_}
 use mathlib.Core.Path.{_≡_}
 use mathlib.Core.Bool.{Bool, true, false, cond}
-use mathlib.Core.List.{List, [], _∷_, _++_}
+use mathlib.Core.List.{List, [], _∷_}
 use lib.ListN.{length, take, drop}
 use lib.Dec.{ltb, eqb}
 use denote.Ref.{RefT, ptr, now}
-use Rattle.meaning.specs.Words.{Action}
 use Rattle.meaning.specs.Numbers.{given, first-of}
 use Rattle.names.specs.Names.{Entry, first-byte, entry-form, entries, list-broken}
 

@@ -92,6 +92,10 @@ unfoldable pub name-in : List Entry → Action → List ℕ
 name-in [] a = []
 name-in (e ∷ rest) a = cond (eqb (first-byte (e .action)) (first-byte a)) (e .name) (name-in rest a)
 
+-- What a list means: a map from action to name.
+abbrev pub names-in : List ℕ → Action → List ℕ
+names-in list = name-in (entries list)
+
 -- ---- The same rules of entries, with no bytes: what `list-broken` is proved to refuse, no more and no less
 
 unfoldable pub AllInside : List ℕ → Type 0

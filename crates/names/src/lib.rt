@@ -2,7 +2,7 @@
 ghost use mathlib.Core.Path.{_≡_};
 ghost use mathlib.Core.Bool.{cond, false, _||_};
 ghost use Prim.Native.Nat.{_+_, _<_, _≤_};
-ghost use lib.ListN.{length, drop};
+ghost use lib.ListN.{length};
 ghost use lib.Dec.{ltb};
 ghost use Rattle.names.specs.Names.{any-outside, zero-bit-set, size-outside, entry-size, entry-broken, list-broken, entries};
 ghost use Rattle.names.specs.Lookup.{names-refusal, name-span, asked, choice, Part, Handed};

@@ -4,6 +4,7 @@ use mathlib.Core.Path.{_≡_, refl}
 use mathlib.Core.List.{List, [], _∷_, _++_}
 use Rattle.meaning.specs.Node.{Verdict, verdict-number}
 use Rattle.printout.specs.Text.{digits, decimal, letter, clear, suspect, certain, blind, word, header-text, line-text, end-text, stop-text}
+use Rattle.printout.specs.Named.{named-header-text, front-text, back-text, shown-name, named-line-text}
 
 -- `line kind action stamp verdict open`, `1 I 0 100 clear 1`, `2 O 2 120 suspect 1`, `3 O 2 161 certain 0`, `end 3`
 abbrev case-15-listing : List ℕ
@@ -27,6 +28,15 @@ gap-line = refl
 pub stop-line : stop-text 2 5 ≡ 115 ∷ 116 ∷ 111 ∷ 112 ∷ 32 ∷ 50 ∷ 32 ∷ 53 ∷ 10 ∷ []
 unfolding stop-text decimal digits
 stop-line = refl
+
+-- With names: `line kind action name stamp verdict open`, `1 I 0 switch 100 clear 1`, `4 G 0 - 200 blind 0`
+pub named-lines : named-header-text ++ named-line-text 1 0 0 (115 ∷ 119 ∷ 105 ∷ 116 ∷ 99 ∷ 104 ∷ []) 100 0 1 ++ named-line-text 4 2 0 [] 200 3 0
+    ≡ 108 ∷ 105 ∷ 110 ∷ 101 ∷ 32 ∷ 107 ∷ 105 ∷ 110 ∷ 100 ∷ 32 ∷ 97 ∷ 99 ∷ 116 ∷ 105 ∷ 111 ∷ 110 ∷ 32 ∷ 110 ∷ 97 ∷ 109 ∷ 101 ∷ 32 ∷ 115 ∷ 116 ∷ 97 ∷ 109 ∷ 112 ∷ 32
+    ∷ 118 ∷ 101 ∷ 114 ∷ 100 ∷ 105 ∷ 99 ∷ 116 ∷ 32 ∷ 111 ∷ 112 ∷ 101 ∷ 110 ∷ 10
+    ∷ 49 ∷ 32 ∷ 73 ∷ 32 ∷ 48 ∷ 32 ∷ 115 ∷ 119 ∷ 105 ∷ 116 ∷ 99 ∷ 104 ∷ 32 ∷ 49 ∷ 48 ∷ 48 ∷ 32 ∷ 99 ∷ 108 ∷ 101 ∷ 97 ∷ 114 ∷ 32 ∷ 49 ∷ 10
+    ∷ 52 ∷ 32 ∷ 71 ∷ 32 ∷ 48 ∷ 32 ∷ 45 ∷ 32 ∷ 50 ∷ 48 ∷ 48 ∷ 32 ∷ 98 ∷ 108 ∷ 105 ∷ 110 ∷ 100 ∷ 32 ∷ 48 ∷ 10 ∷ []
+unfolding named-header-text named-line-text front-text back-text shown-name decimal digits letter word
+named-lines = refl
 
 -- The largest number of 64 bits, in twenty digits, and the smallest.
 pub largest : decimal 18446744073709551615 ≡ 49 ∷ 56 ∷ 52 ∷ 52 ∷ 54 ∷ 55 ∷ 52 ∷ 52 ∷ 48 ∷ 55 ∷ 51 ∷ 55 ∷ 48 ∷ 57 ∷ 53 ∷ 53 ∷ 49 ∷ 54 ∷ 49 ∷ 53 ∷ []

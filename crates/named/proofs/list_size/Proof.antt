@@ -1,6 +1,5 @@
 -- `named::list_size` meets its contract: two bytes are below 65,536.
 use mathlib.Core.Path.{refl}
-use native.Mathlib.Omega.{arith}
 use borrow.Author.Needs.{needs}
 use Rattle.named.proofs.list_size.Statement.{statement}
 use Rattle.named.proofs.list_size.Tie as tie

@@ -5,6 +5,7 @@ use mathlib.Core.List.{List}
 use native.Mathlib.Omega.{arith}
 use lib.ListN.{length}
 use denote.Ref.{now}
+use Rattle.record_form.specs.declared.RecordRead.{RecordRead}
 use Rattle.printout.specs.Text.{text-of}
 use Rattle.printout.specs.Named.{front-text}
 use Rattle.printed.specs.Listing.{shown}
@@ -16,14 +17,16 @@ use Rattle.named.proofs.named_line.Statement.{statement}
 use Rattle.named.proofs.named_line.Tie as tie
 
 -- the front is that of the record that was read
-front-long : (c : tie.After-name-of)
-    → c .before .front .result .len
-    ≡ length (front-text (c .before .before .before .before .before .before .before .before .args .number) (kind-as (c .before .before .before .before .read-record .result)) (action-as (c .before .before .before .before .read-record .result)))
+abbrev read : tie.After-name-of → RecordRead
+read c = c .before .before .before .before .read-record .result
+
+abbrev number : tie.After-name-of → ℕ
+number c = c .before .before .before .before .before .before .before .before .args .number
+
+front-long : (c : tie.After-name-of) → c .before .front .result .len ≡ length (front-text (number c) (kind-as (read c)) (action-as (read c)))
 front-long c =
-    let k = c .before .before .before .before in
-    let number = k .before .before .before .before .args .number in
     text-size (c .before .front .result) _
-    (c .before .front .ensures ∙ ap₂ (λ (a b : ℕ). text-of (front-text number a b)) (c .before .before .before .kind-of .ensures) (c .before .before .action-of .ensures))
+    (c .before .front .ensures ∙ ap₂ (λ (a b : ℕ). text-of (front-text (number c) a b)) (c .before .before .before .kind-of .ensures) (c .before .before .action-of .ensures))
 
 read-record-requires : tie.Need-read-record-requires
 read-record-requires c κs = search needs

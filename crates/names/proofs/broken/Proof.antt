@@ -26,7 +26,8 @@ L c = now (c .before .before .before .before .before .before .args .list)
 checked : (c : tie.After-entry-broken Inv-loop μ-loop) → c .entry-broken .result ≡ entry-broken (c .before .before .before .loop .least) (drop (c .before .before .before .loop .i) (L c))
 checked c = c .entry-broken .ensures ∙ ap (entry-broken (c .before .before .before .loop .least)) (part-all (L c) (c .before .before .before .loop .i))
 
-on : (c : tie.Else2 Inv-loop μ-loop) → On (L (c .before)) (c .before .before .before .before .loop .i) (c .before .before .before .loop-test .taken) (c .before .before .before .before .loop .inv .1 .0) (c .before .before .before .before .loop .least)
+on : (c : tie.Else2 Inv-loop μ-loop)
+    → (let l = c .before .before .before .before .loop in On (L (c .before)) (l .i) (c .before .before .before .loop-test .taken) (l .inv .1 .0) (l .least))
 on c =
     let l = c .before .before .before .before .loop in
     broken-on (L (c .before)) (l .i) (c .before .before .before .loop-test .taken) (l .inv .1 .0) (l .least) (l .inv .1 .1) (sym (checked (c .before)) ∙ c .if2 .left)
@@ -88,12 +89,13 @@ loop-again : tie.Need-loop-again Inv-loop μ-loop
 loop-again c =
     let o = on (c .before .before .before .before) in
     let list = L (c .before .before .before .before .before) in
-    let i = c .before .before .before .before .before .before .before .before .loop .i in (
+    let i = c .before .before .before .before .before .before .before .before .loop .i in
+    let up : c .before .before .number .result + 1 ≡ suc (getD list i 0) = omega (arith, c .before .before .number .ensures .0) in (
       omega (arith, o .fits, c .number2 .ensures .0),
       (
         o .less,
         omega (arith, o .enough, c .number2 .ensures .0),
-        ap₂ (λ (a b : ℕ). entries-broken (o .less) a (drop (i + (2 + b)) list)) (let e : c .before .before .number .result + 1 ≡ suc (getD list i 0) = omega (arith, c .before .before .number .ensures .0) in e) (c .number2 .ensures .0)
+        ap₂ (λ (a b : ℕ). entries-broken (o .less) a (drop (i + (2 + b)) list)) up (c .number2 .ensures .0)
             ∙ o .same ∙ c .before .before .before .before .before .before .before .before .loop .inv .1 .2,
       ),
     )

@@ -1,5 +1,5 @@
 -- `names::first_byte` meets its contract.
-use Prim.Native.Nat.{ℕ, _+_}
+use Prim.Native.Nat.{_+_}
 use mathlib.Core.Path.{sym, ap, _∙_}
 use native.Mathlib.Nat.{zero-add}
 use mathlib.Core.Bool.{Bool, cond}
