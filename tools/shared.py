@@ -1,6 +1,8 @@
-# What listing, pack and unpack share: the limits and kinds of the packed forms, messages, and writing that leaves nothing out.
+# What listing, names, pack and unpack share: the limits and kinds of the packed forms, reading text, messages, and writing that
+# leaves nothing out.
 
 import os
+import re
 import select
 import signal
 
@@ -10,6 +12,8 @@ HIGHEST_BOUND = 60_000_000
 HIGHEST_STAMP = 2**40 - 1
 INPUT, OUTPUT, GAP, END = range(4)
 RECORD = 6
+LONGEST_LINE = 65536  # bytes, so that a text without line ends does not fill the memory
+BYTE_ORDER_MARK = b'\xef\xbb\xbf'
 
 
 def say(text):
@@ -49,6 +53,42 @@ def close_output():
         os.close(1)
     except OSError as error:
         raise Unwritten(error) from None
+
+
+class Bad(Exception):
+    """What is wrong with a text. Behind `read_text` its line's number stands before it."""
+
+
+def number(word, highest, what, past=None):
+    if not re.fullmatch('[0-9]+', word):
+        raise Bad(f"'{word}' is not {what}")
+    digits = word.lstrip('0') or '0'
+    # compared by length first: Python declines to read a number of thousands of digits
+    if len(digits) > len(str(highest)) or int(digits) > highest:
+        raise Bad(past or f'{what} is at most {highest}')
+    return int(digits)
+
+
+def action(word):
+    if word[:1] not in ('?', '!'):
+        raise Bad(f"'{word}' is not an action: ?0 to ?{HIGHEST_ACTION} or !0 to !{HIGHEST_ACTION}")
+    return '?!'.index(word[0]), number(word[1:], HIGHEST_ACTION, "an action's number")
+
+
+def read_text(file, take, finish=lambda: None):
+    """Hands each line to `take`, until that answers True or the text ends, and then calls `finish`."""
+    at = 1
+    try:
+        for at, line in enumerate(iter(lambda: file.readline(LONGEST_LINE + 1), b''), 1):
+            if len(line) > LONGEST_LINE:
+                raise Bad(f'a line has at most {LONGEST_LINE} bytes')
+            if at == 1 and line.startswith(BYTE_ORDER_MARK):
+                line = line[len(BYTE_ORDER_MARK):]
+            if take(line):
+                break
+        finish()
+    except Bad as bad:
+        raise Bad(f'line {at}: {bad}') from None
 
 
 def run(name, main, words):
