@@ -1,4 +1,5 @@
-"""The rules (docs/RULES.md) read once more, for the Python tests: packed forms, explanations, verdicts, room, gaps, the listing.
+"""The rules (docs/RULES.md) read once more, for the Python tests: packed forms, explanations, verdicts, room, gaps, the listing,
+lists of names and the listing with names.
 
 It shares nothing with the crates, the tools or the C tests. A verdict is found in two ways: from all explanations of a run,
 listed one by one, and by one step after the other over cuts, which long runs need."""
@@ -264,3 +265,83 @@ def listing(data, most=MOST_LISTED):
         taken += 1
         at += 6
         lines.append("%d %s %d %d %s %d" % (taken, "IOG"[kind], action, stamp, WORDS[verdict], len(w.held)))
+
+
+# ---- names
+
+LONGEST_LIST = 8192
+LONGEST_NAME = 40
+SITE, RELEASE = 11, 12  # the refusals of a broken list
+
+
+def pack_names(named):
+    """The packed list of a dictionary from actions to names, each of these bytes."""
+    packed = b""
+    for out, act in sorted(named):
+        name = named[out, act]
+        packed += bytes([out << 7 | act, len(name)]) + name
+    return packed
+
+
+def announced(packed):
+    return len(packed).to_bytes(2, "big") + packed
+
+
+def names(packed):
+    """The dictionary of a packed list, None where that is broken."""
+    if len(packed) > LONGEST_LIST:
+        return None
+    named, rest, firsts = {}, packed, []
+    while rest:
+        if len(rest) < 2:
+            return None
+        first, size, name = rest[0], rest[1], rest[2:2 + rest[1]]
+        if not 1 <= size <= LONGEST_NAME or len(name) != size:
+            return None
+        bits = format(first, "08b")
+        if bits[1] != "0" or any(earlier >= first for earlier in firsts):
+            return None
+        if [byte for byte in name if byte < 33 or byte > 126]:
+            return None
+        firsts.append(first)
+        named[bits[0] == "1", int(bits[2:], 2)] = name
+        rest = rest[2 + size:]
+    return named
+
+
+def read_lists(data):
+    """Refusal, the dictionaries of both lists and the number of bytes read."""
+    found, at = [], 0
+    for broken in (SITE, RELEASE):
+        size = int.from_bytes(data[at:at + 2], "big")
+        if len(data) < at + 2 or len(data) < at + 2 + size:
+            return 7, None, len(data)
+        found.append(names(data[at + 2:at + 2 + size]))
+        at += 2 + size
+        if found[-1] is None:
+            return broken, None, at
+    return 0, found, at
+
+
+def name_of(found, kind, action):
+    """Of the first list that has one."""
+    for named in found:
+        if kind != GAP and (kind == OUTPUT, action) in named:
+            return named[kind == OUTPUT, action].decode()
+    return "-"
+
+
+def named_listing(data, most=MOST_LISTED):
+    """The lines that the program with names prints, and how many verdicts were found in both ways: the listing of what stands
+    behind the lists, with one field more."""
+    header = "line kind action name stamp verdict open"
+    refusal, found, at = read_lists(data)
+    if refusal:
+        return [header, "stop 0 %d" % refusal], 0
+    lines, both = listing(data[at:], most)
+    named = [header]
+    for line in lines[1:-1]:
+        taken, kind, action, *others = line.split()
+        name = name_of(found, "IOG".index(kind), int(action))
+        named.append(" ".join([taken, kind, action, name] + others))
+    return named + lines[-1:], both

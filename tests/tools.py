@@ -1,6 +1,6 @@
 #!/usr/bin/env python3
-"""tools/listing, tools/pack and tools/unpack as a user meets them: full and closed outputs, readers that go away, input that
-comes slowly, bad arguments, bad bytes. Exits 1 at the first thing that is not as docs/DECISIONS.md says.
+"""tools/listing, tools/names, tools/pack and tools/unpack as a user meets them: full and closed outputs, readers that go away,
+input that comes slowly, bad arguments, bad bytes. Exits 1 at the first thing that is not as docs/DECISIONS.md says.
 
     tests/tools.py [PART..]     all parts unless some are named"""
 import contextlib
@@ -24,9 +24,11 @@ import rules  # noqa: E402
 from rules import END, END_RECORD, GAP, INPUT, LIMIT, OUTPUT, pack_record  # noqa: E402
 
 TOP = os.path.dirname(os.path.dirname(os.path.abspath(__file__)))
-PROGRAM = os.path.join(TOP, 'target', 'bin', 'listing')
-LISTING, PACK, UNPACK = (os.path.join(TOP, 'tools', name) for name in ('listing', 'pack', 'unpack'))
+PROGRAM, NAMED_PROGRAM = (os.path.join(TOP, 'target', 'bin', name) for name in ('listing', 'named_listing'))
+LISTING, NAMES, PACK, UNPACK = (os.path.join(TOP, 'tools', name) for name in ('listing', 'names', 'pack', 'unpack'))
 SAMPLES = sorted(os.path.join(TOP, 'samples', name) for name in os.listdir(os.path.join(TOP, 'samples')) if name.endswith('.bin'))
+SITE, RELEASE = (os.path.join(TOP, 'samples', f'switch-{name}.names') for name in ('site', 'release'))
+SWITCH = os.path.join(TOP, 'samples', 'switch.bin')
 PATIENCE = 60
 SHORT = 30  # seconds that something ready at once may take on a busy machine
 
@@ -48,6 +50,13 @@ def holds(what, truth):
 def contents(path):
     with open(path, 'rb') as file:
         return file.read()
+
+
+def file_of(folder, name, data):
+    path = os.path.join(folder, name)
+    with open(path, 'wb') as file:
+        file.write(data)
+    return path
 
 
 def run(words, data=b'', stdout=subprocess.PIPE, **more):
@@ -185,6 +194,7 @@ def listing_lost_output(folder):
         long.write(LONG)
     for env in environments():
         lost_output([made.listing, path], made.environment(env), folder, quiet=True)
+    lost_output([made.listing, '--names', SITE, RELEASE, path], made.environment(environments()[0]), folder, quiet=True)
     for words in ('tools/listing samples/case14.bin | head -1', 'tools/listing samples/case14.bin | head -1 | cat'):
         status, out, said = run(['sh', '-c', words], cwd=TOP)
         same(words, (status, out, said), (0, b'line kind action stamp verdict open\n', ''))
@@ -229,13 +239,15 @@ def children(pid):
 
 def listing_live(folder):
     """Each line is there before the next record comes; a program that dies is noticed; a signal ends both."""
+    live_lines([LISTING], None, ['line kind action stamp verdict open\n', '1 I 0 100 clear 1\n', '2 O 2 120 suspect 1\n'])
+
+
+def live_lines(words, env, want):
     for end in ('end', 'killed', 'signal'):
-        with started([LISTING], stdin=subprocess.PIPE, stderr=subprocess.PIPE) as live:
-            live.stdin.write(rules.pack_property(B))
-            same('the header', some_line(live.stdout), 'line kind action stamp verdict open\n')
-            for at, less, want in ((0, 100, '1 I 0 100 clear 1\n'), (0x42, 20, '2 O 2 120 suspect 1\n')):
-                live.stdin.write(bytes([at]) + less.to_bytes(5, 'big'))
-                same('a line, before the next record', some_line(live.stdout), want)
+        with started(words, env=env, stdin=subprocess.PIPE, stderr=subprocess.PIPE) as live:
+            for part, line in zip((rules.pack_property(B), pack_record(INPUT, 0, 100), pack_record(OUTPUT, 2, 20)), want):
+                live.stdin.write(part)
+                same('a line, before the next record', some_line(live.stdout), line)
             programs = children(live.pid)
             same('the number of programs run', len(programs), 1)
             if end == 'end':
@@ -266,16 +278,26 @@ def listing_leaves_input(folder):
                        (form + pack_record(INPUT, 0, LIMIT) + pack_record(OUTPUT, 0, 1), 'stop 1 4'),
                        (form + pack_record(INPUT, 0, 0) * 65, 'stop 64 6'),
                        (form[:-1] + b'\1', 'stop 0 8'),
-                       (b'\0' * 16, 'stop 0 1')):
-        for words in ([made.listing], command):
-            reader, writer = os.pipe()
-            os.write(writer, data + behind)
-            os.close(writer)
-            done = subprocess.run(words, stdin=reader, stdout=subprocess.PIPE, timeout=PATIENCE, env=made.environment())
-            left = os.read(reader, 1000)
-            os.close(reader)
-            same('the last line', done.stdout.decode().split('\n')[-2], last)
-            same(f'what is left in the pipe after {last}', left, behind)
+                       (b'\0' * 16, 'stop 0 1'),
+                       (rules.pack_property(B, 33), 'stop 0 1'),
+                       (rules.pack_property(B._replace(lb=31)), 'stop 0 2')):
+        for words in ([made.listing], [made.listing, '--names', SITE, RELEASE], command):
+            leaves_input(words, made.environment(), data, behind, last)
+    # of a log behind a broken list nothing is read
+    broken = file_of(folder, 'broken', b'\0\1 ')
+    for site, release, last in ((broken, RELEASE, 'stop 0 11'), (SITE, broken, 'stop 0 12')):
+        leaves_input([made.listing, '--names', site, release], made.environment(), b'', form + END_RECORD, last)
+
+
+def leaves_input(words, env, data, behind, last):
+    reader, writer = os.pipe()
+    os.write(writer, data + behind)
+    os.close(writer)
+    done = subprocess.run(words, stdin=reader, stdout=subprocess.PIPE, timeout=PATIENCE, env=env)
+    left = os.read(reader, 1000)
+    os.close(reader)
+    same('the last line', done.stdout.decode().split('\n')[-2], last)
+    same(f'what is left in the pipe after {last}', left, behind)
 
 
 class Folder:
@@ -284,7 +306,7 @@ class Folder:
     def __init__(self, folder):
         self.top = os.path.join(folder, 'a folder')
         self.listing = os.path.join(self.top, 'tools', 'listing')
-        self.program = os.path.join(self.top, 'target', 'bin', 'listing')
+        self.program, self.named_program = (os.path.join(self.top, 'target', 'bin', name) for name in ('listing', 'named_listing'))
         self.logs = os.path.join(self.top, 'logs')
         self.asked = os.path.join(self.top, 'asked')
         self.said = os.path.join(self.top, 'said')
@@ -297,6 +319,7 @@ class Folder:
 
     def build(self):
         shutil.copy(PROGRAM, self.program)
+        shutil.copy(NAMED_PROGRAM, self.named_program)
 
     def play(self, lines=(), status=0, more=':'):
         """What rt check says, its status, and what else it does. It reads all of its standard input, which must not be the
@@ -317,13 +340,13 @@ esac
         env['PATH'] = os.path.join(self.top, 'bin') + ':' + env['PATH'] if rt else os.path.join(self.top, 'no rt')
         return env
 
-    def times_asked(self):
-        """How often rt check was run since the last question."""
+    def times_asked(self, program='listing'):
+        """How often rt check was run since the last question, and for nothing but this program."""
         if not os.path.exists(self.asked):
             return 0
         asked = contents(self.asked).split(b'\n')[:-1]
         os.remove(self.asked)
-        same('what rt is asked', set(asked), {b'check listing'})
+        same('what rt is asked', set(asked), {b'check ' + program.encode()})
         return len(asked)
 
     def run(self, *words, rt=True, data=b'', listing=None):
@@ -401,6 +424,220 @@ def listing_builds(folder):
     message('a program that cannot start', said, 'listing: ')
 
 
+NAMED_SWITCH = '''\
+line kind action name stamp verdict open
+1 I 1 whole-city 1000000 clear 1
+2 O 2 old-tile 1031000 clear 1
+3 I 2 city-centre 1200000 clear 1
+4 O 2 old-tile 1244000 clear 1
+5 I 0 switch 2000000 clear 1
+6 O 0 acknowledged 2090000 clear 0
+7 O 2 old-tile 2090400 certain 0
+8 G 0 - 2500000 blind 0
+9 O 2 old-tile 2560000 blind 0
+10 I 2 city-centre 2630000 blind 0
+11 I 0 switch 3000000 clear 1
+12 I 2 city-centre 3005000 clear 2
+13 O 0 acknowledged 3060000 clear 2
+14 O 2 old-tile 3061000 suspect 2
+end 14
+'''.encode()
+MARK = b'\xef\xbb\xbf'
+
+
+def listing_names(folder):
+    """The sample in full, its lists packed and as text; every sample and a long log with the same names; statuses."""
+    made = Folder(folder)
+    for site in (SITE, SITE + '.txt'):
+        for release in (RELEASE, RELEASE + '.txt'):
+            same('the sample with names', made.run('--names', site, release, SWITCH), (0, NAMED_SWITCH, ''))
+    log = contents(SWITCH)
+    same('a log from standard input', made.run('--names', SITE, RELEASE, data=log), (0, NAMED_SWITCH, ''))
+    lists = b''.join(rules.announced(contents(path)) for path in (SITE, RELEASE))
+    for data in [contents(path) for path in SAMPLES] + [LONG, b'', log[:1], log[:-1], b'\0' * 71]:
+        want, _ = rules.named_listing(lists + data, 50)
+        status, out, said = made.run('--names', SITE, RELEASE, data=data)
+        same('a listing with names', out.decode().split('\n'), want + [''])
+        same(f'the status after {want[-1]}', (status, said), (1 if want[-1].startswith('stop') else 0, ''))
+    # a log that cannot be read is one that ends, as it is without names
+    for words, told in (([], ''), (['--names', SITE, RELEASE], 'listing: the log: Input/output error\n')):
+        status, out, said = made.run(*words, '/proc/self/mem')
+        same('a log that cannot be read', (status, out.split(b'\n')[1:], said), (1, [b'stop 0 7', b''], told))
+
+
+def listing_names_lists(folder):
+    """What a list's file may hold. A good packed list is one, whatever else it could be; then text; the program judges the rest."""
+    made = Folder(folder)
+    made.play(UNCHANGED, more=f'echo "$*" >>{shlex.quote(made.asked)}')
+    data = rules.pack_property(B) + pack_record(INPUT, 0, 100) + pack_record(INPUT, 35, 61) + END_RECORD
+
+    def listed(site, release):
+        """Status, the two names or else the last line, messages, and how often rt check was run."""
+        status, out, said = made.run('--names', site, release, data=data)
+        lines = out.decode().split('\n')[:-1]
+        told = [line.split()[3] for line in lines[1:-1]] if lines[-1:] == ['end 2'] else lines[-1:]
+        return status, told, said, made.times_asked('named_listing')
+
+    text = b'?35 late\n?0 in\n'
+    comment = b'# ' + b'x' * 32  # a good list too: ?35, the length 32, a name
+    both = file_of(folder, 'both', rules.pack_names({(False, 0): b'i', (False, 35): b'l'}))
+    for what, file, names in (('no bytes', b'', 'i l'), ('text', text, 'in late'), ('a mark', MARK + text, 'in late'),
+                              ('CRLF', text.replace(b'\n', b'\r\n'), 'in late'), ('no line end at the end', text[:-1], 'in late'),
+                              ('a mark alone', MARK, 'i l'), ('blanks', b' \t\r\n\n', 'i l'), ('a comment', b'# no names', 'i l'),
+                              ('blanks before text', MARK + b'\n\n \t' + text, 'in late'), ('a comment before', b'#\n' + text, 'in late'),
+                              ('one name', b'?35 late', 'i late'), ('packed', rules.pack_names({(False, 0): b'I'}), 'I l'),
+                              ('a list and a comment', comment, 'i ' + 'x' * 32), ('a comment that is no list', comment + b'\n', 'i l')):
+        same(what, listed(file_of(folder, 'list', file), both), (0, names.split(), '', 1))
+    same('a release as text', listed('/dev/null', file_of(folder, 'list', text)), (0, ['in', 'late'], '', 1))
+    same('no names', listed('/dev/null', '/dev/null'), (0, ['-', '-'], '', 1))
+    every = {(out, k): b'%02d' % k + b'~' * 38 for out in (False, True) for k in range(64)}
+    path = file_of(folder, 'list', rules.pack_names(every))
+    same('the longest list', listed(path, path), (0, ['00' + '~' * 38, '35' + '~' * 38], '', 1))
+    for file, line in ((b'?0 in\n?0 again\n', 2), (MARK + b'\n# one\n!64 x', 3), (comment + b'\nnonsense\n', 2)):
+        path = file_of(folder, 'bad', file)
+        told = run([NAMES, path])[2]
+        message('bad text', told, f'names: line {line}: ')
+        want = (1, [], told.replace('names: ', f'listing: {path}: '), 0)
+        same(f'bad text {file!r}, the site', listed(path, RELEASE), want)
+        same(f'bad text {file!r}, the release', listed(SITE, path), want)
+    for file in (b'nonsense\n', b'\0\1 ', b'?', b'!x 1\n', MARK + b'x', b'\0' * 8193, b'\xff' * 65535):
+        path = file_of(folder, 'broken', file)
+        same(f'{file[:20]!r}, the site', listed(path, RELEASE), (1, ['stop 0 11'], '', 1))
+        same(f'{file[:20]!r}, the release', listed(SITE, path), (1, ['stop 0 12'], '', 1))
+    same('two broken lists', listed(path, path), (1, ['stop 0 11'], '', 1))
+    large = file_of(folder, 'large', b'# ' + b'x' * 65534)
+    for site, release, what in ((large, RELEASE, 'at most 65535 bytes'), (SITE, '/dev/zero', 'at most 65535 bytes'),
+                                ('no such file', RELEASE, 'no such file: No such file'),
+                                (SITE, 'no such file', 'no such file: No such file'), ('/', RELEASE, '/: Is a directory')):
+        status, told, said, asked = listed(site, release)
+        same(f'{what}: status, output, rt check', (status, told, asked), (2, [], 0))
+        message(what, said, what)
+    path = file_of(folder, 'log', data)
+    same('a list from standard input', made.run('--names', '/dev/stdin', both, path, data=b'?0 in\n')[1].split(b'\n')[1:3],
+         [b'1 I 0 in 100 clear 1', b'2 I 35 l 161 clear 1'])
+
+
+def listing_names_builds(folder):
+    """Arguments first, then rt check of the one program that is wanted."""
+    made = Folder(folder)
+    asked = f'echo "$*" >>{shlex.quote(made.asked)}'
+    made.play(UNCHANGED, more=asked)
+    for words in (['--names'], ['--names', SITE], ['--names', SITE, RELEASE, SWITCH, SWITCH], ['--names', '-', RELEASE],
+                  ['--names', SITE, '--help'], ['--names', SITE, RELEASE, '-'], [SWITCH, '--names', SITE, RELEASE],
+                  ['--command', '--names', SITE, RELEASE]):
+        status, out, said = made.run(*words)
+        same(f'{words}: status, output, rt check', (status, out, made.times_asked()), (2, b'', 0))
+        message(str(words), said, 'usage: tools/listing [FILE]', 'tools/listing --names SITE RELEASE [FILE]')
+    for log in ('no such file', '/'):
+        status, out, said = made.run('--names', SITE, RELEASE, log)
+        same(f'{log}: status, output, rt check', (status, out, made.times_asked()), (2, b'', 0))
+        message(log, said, log)
+    # neither needs the other
+    os.remove(made.program)
+    same('the sample with names', made.run('--names', SITE, RELEASE, SWITCH), (0, NAMED_SWITCH, ''))
+    same('rt check', made.times_asked('named_listing'), 1)
+    made.build()
+    os.remove(made.named_program)
+    same('the sample without names', made.run(SWITCH)[0], 0)
+    same('rt check', made.times_asked(), 1)
+    made.play(PROVED, more=f'{asked}; cp {shlex.quote(NAMED_PROGRAM)} {shlex.quote(made.named_program)}')
+    for text in ('proving and building the program first, which takes some minutes', 'the sources have changed'):
+        status, out, said = made.run('--names', SITE, RELEASE, SWITCH)
+        same('the listing of a program built anew', (status, out), (0, NAMED_SWITCH))
+        message('the program is built', said, text, 'rt: meaning proved (2 s)\n')
+    same('rt check', made.times_asked('named_listing'), 2)
+    made.play(['rt: names NOT PROVED (exit 1, 3 s)'], 1)
+    status, out, said = made.run('--names', SITE, RELEASE, SWITCH)
+    same('status and output where rt check fails', (status, out), (2, b''))
+    message('rt check fails', said, 'names NOT PROVED', 'status 1')
+    os.remove(made.named_program)
+    status, out, said = made.run('--names', SITE, RELEASE, SWITCH, rt=False)
+    same('without rt and program', (status, out), (2, b''))
+    message('without rt and program', said, 'named_listing', 'no rt on the PATH')
+
+
+def listing_names_live(folder):
+    """Line by line, as without names; and a log that grows, all the way from its text."""
+    made = Folder(folder)
+    words = [made.listing, '--names', file_of(folder, 'site', b'!2 broken\n'), file_of(folder, 'release', b'?0 go\n!2 out\n')]
+    header, env = 'line kind action name stamp verdict open\n', made.environment()
+    live_lines(words, env, [header, '1 I 0 go 100 clear 1\n', '2 O 2 broken 120 suspect 1\n'])
+    with started([PACK, '--follow'], stdin=subprocess.PIPE) as packer, started(words, stdin=packer.stdout, env=env) as lister:
+        packer.stdout.close()
+        packer.stdin.write(TEXT)
+        same('the header', some_line(lister.stdout), header)
+        for text, line in ((b'?0 @100\n', '1 I 0 go 100 clear 1\n'), (b'gap @110\n', '2 G 0 - 110 blind 0\n'),
+                           (b'!2 @171\n', '3 O 2 broken 171 clear 0\n')):
+            packer.stdin.write(text)
+            same('a line of a growing log', some_line(lister.stdout), line)
+        packer.stdin.close()
+        same('its last line', some_line(lister.stdout), 'end 3\n')
+        same('their statuses', (packer.wait(SHORT), lister.wait(SHORT)), (0, 0))
+    # a log that comes byte by byte, and one that does not block
+    for blocks in (True, False):
+        reader, writer = os.pipe()
+        os.set_blocking(reader, blocks)
+        with started(words, stdin=reader, env=env) as lister:
+            os.close(reader)
+            for byte in rules.pack_property(B) + pack_record(INPUT, 0, 100):
+                time.sleep(.002)
+                os.write(writer, bytes([byte]))
+            same('the lines of slow bytes', [some_line(lister.stdout), some_line(lister.stdout)], [header, '1 I 0 go 100 clear 1\n'])
+            os.write(writer, END_RECORD[:3])
+            os.close(writer)
+            same('the last line of a log cut short', some_line(lister.stdout), 'stop 1 7\n')
+            same('its status', lister.wait(SHORT), 1)
+
+
+def names_text(folder):
+    """Good text in any order, and each way to write it badly. The samples' lists are what is made of their texts."""
+    for path in (SITE, RELEASE):
+        same(f'the list of {path}.txt', run([NAMES, path + '.txt']), (0, contents(path), ''))
+    plain = b'!2 old-tile\n?0 switch\n?63 last\n!0 first\n'
+    crlf = plain.replace(b'\n', b'\r\n')
+    want = rules.pack_names({(True, 2): b'old-tile', (False, 0): b'switch', (False, 63): b'last', (True, 0): b'first'})
+    for what, text in (('plain', plain), ('a byte-order mark', MARK + plain), ('CRLF', crlf), ('both', MARK + crlf),
+                       ('no line end at the end', plain[:-1]), ('half a line end at the end', crlf[:-1]),
+                       ('another order', b''.join(sorted(plain.splitlines(True)))),
+                       ('blanks', b'\n \t\n\t' + plain.replace(b' ', b' \t ').replace(b'\n', b' \t\n ')),
+                       ('comments', b'# all\n \t#\xff\n' + plain.replace(b'\n', b' # \xc3\xa9\n') + b'#'),
+                       ('short comments', plain.replace(b'\n', b'\t#?0 x\n')),
+                       ('zeros before a number', plain.replace(b'?0', b'?000').replace(b'!2', b'!02'))):
+        same(f'names: {what}', run([NAMES], text), (0, want, ''))
+    for text, named in ((b'', {}), (b'\n# none\n', {}), (MARK, {}),
+                        (b'?0 #\n?1 #1 # one\n?2 a#2\n?3 # #3\n', {0: b'#', 1: b'#1', 2: b'a#2', 3: b'#'}),
+                        (b'?5 !~ \n?6 ?0\n?7 ' + b'x' * 40, {5: b'!~', 6: b'?0', 7: b'x' * 40})):
+        same(f'the list of {text!r}', run([NAMES], text), (0, rules.pack_names({(False, k): name for k, name in named.items()}), ''))
+    every = {(out, k): bytes(33 + (at + 40 * k) % 94 for at in range(40)) for out in (False, True) for k in range(64)}
+    text = [b'%c%d %s\n' % (b'?!'[out], k, name) for (out, k), name in every.items()]
+    random.Random(20260102).shuffle(text)
+    same('all 128 names', run([NAMES], b''.join(text)), (0, rules.pack_names(every), ''))
+    word, action, number = 'a name is one word', 'is not an action: ', "is not an action's number"
+    for text, line, told in ((b'?0 a\n!0 b\n?0 c\n', 3, '?0 stands twice: it has the name a already'),
+                             (b'!1 a\n\n!01 a\n', 3, '!1 stands twice: it has the name a already'),
+                             (b'# x\n?0 ' + b'x' * 41 + b'\n', 2, 'a name has at most 40 bytes, and this one has 41'),
+                             (b'?0 a\n?1\n', 2, 'there is no name behind ?1'), (b'?1 \t\r\n', 1, 'there is no name behind ?1'),
+                             (b'?1 a\tb # c\n', 1, word), (b'?1 # c\n', 1, word),
+                             (b'?1 a\n!1 \xc3\xa9\n', 2, 'the bytes of a name are from 33 to 126, and this name has a byte 195'),
+                             (b'?1 a\r\r\n', 1, 'a byte 13'), (b'?1 a\x7f\n', 1, 'a byte 127'), (b'?1 \0\n', 1, 'a byte 0'),
+                             (b'?64 a\n', 1, 'at most 63'), (b'!' + b'9' * 5000 + b' a\n', 1, 'at most 63'),
+                             (b'? a\n', 1, number), (b'?1#a\n', 1, number), (b'gap a\n', 1, action), (b'?1 a\n\xff\n', 2, action),
+                             (b'?1 a\n' + MARK + b'?2 b\n', 2, action), (b'?0 a\n' + b'#' * 65537, 2, 'at most 65536 bytes')):
+        status, out, said = run([NAMES], text)
+        same(f'{text[:30]!r}: status and output', (status, out), (1, b''))
+        message(f'{text[:30]!r}', said, f'names: line {line}: ', told)
+
+
+def names_output(folder):
+    lost_output([NAMES, RELEASE + '.txt'], environments()[0], folder)
+    for words in (['--nonsense'], ['a', 'b'], ['-'], ['--help', 'a'], ['no such file'], [TOP], ['']):
+        status, out, said = run([NAMES] + words, cwd=folder)
+        same(f'{words}: status and output', (status, out), (2, b''))
+        message(str(words), said)
+    status, out, said = run([NAMES, '--help'])
+    same('--help', (status, out[:6], said), (0, b'usage:', ''))
+
+
 TEXT = b'bounds 10 30\nsequence ?0\nallow !1\n'
 
 
@@ -434,12 +671,11 @@ def pack_text(folder):
     plain = TEXT + b'?0 @100\n!2 @161\n'
     form = rules.pack_property(B)
     want = form + pack_record(INPUT, 0, 100) + pack_record(OUTPUT, 2, 61) + END_RECORD
-    mark = b'\xef\xbb\xbf'
     day = 1_760_000_000_000_000
     late = TEXT + b'?0 @%d\n!2 @%d\n' % (day + 100, day + 161)
     for more in ([], ['--follow']):
-        for what, words, text in (('plain', [], plain), ('a byte-order mark', [], mark + plain), ('CRLF', [], plain.replace(b'\n', b'\r\n')),
-                                  ('both', [], mark + plain.replace(b'\n', b'\r\n')), ('no line end at the end', [], plain[:-1]),
+        for what, words, text in (('plain', [], plain), ('a byte-order mark', [], MARK + plain), ('CRLF', [], plain.replace(b'\n', b'\r\n')),
+                                  ('both', [], MARK + plain.replace(b'\n', b'\r\n')), ('no line end at the end', [], plain[:-1]),
                                   ('an origin', [], b'origin %d\n' % day + late), ('--origin', ['--origin', str(day)], late),
                                   ('an origin behind the property', [], late.replace(b'?0 @', b'origin %d\n?0 @' % day)),
                                   ('origin 0', ['--origin', '0'], plain), ('an end', [], plain + b'end\n')):
@@ -462,7 +698,7 @@ def pack_text(folder):
                               ([], b'bounds 10 30\nallow none\n?0 @1\nsequence ?0\n', ['line 3: ', "no 'sequence'"]),
                               ([], b'bounds 10 30\nallow none\nend\n', ['line 3: ', "no 'sequence'"]),
                               ([], plain + b'#' * 70000, ['line 6: ', 'at most 65536 bytes']),
-                              ([], plain + mark + b'!2 @161\n', ['line 6: '])):
+                              ([], plain + MARK + b'!2 @161\n', ['line 6: '])):
         status, out, said = run([PACK] + words, text)
         same(f'{told}: status and output', (status, out), (1, b''))
         message(str(told), said, *told)
@@ -597,15 +833,18 @@ def rules_cited(folder):
 
 
 PARTS = [listing_status, listing_long, listing_lost_output, listing_slow_reader, listing_live, listing_leaves_input, listing_builds,
-         pack_output, pack_text, pack_follow, unpack_back, readme, rules_cited]
+         listing_names, listing_names_lists, listing_names_builds, listing_names_live, names_text, names_output, pack_output, pack_text,
+         pack_follow, unpack_back, readme, rules_cited]
 
 
 def main(names):
     unknown = set(names) - {part.__name__ for part in PARTS}
     if unknown:
         sys.exit(f'tools: there is no part {", ".join(sorted(unknown))}')
-    # builds the program if it is not there
+    # builds the programs if they are not there
     subprocess.run([LISTING, '--command'], stdout=subprocess.DEVNULL, check=True)
+    if subprocess.run([LISTING, '--names', os.devnull, os.devnull, os.devnull], stdout=subprocess.DEVNULL).returncode != 1:
+        sys.exit('tools: there is no program that lists with names')
     for part in PARTS:
         if names and part.__name__ not in names:
             continue
