@@ -4,8 +4,8 @@ ghost use mathlib.Core.Bool.{cond};
 ghost use mathlib.Core.List.{[], _∷_};
 ghost use Prim.Native.Nat.{_+_, _-_, _≤_, _<_};
 ghost use lib.ListN.{length, take, drop};
-ghost use Rattle.printout.specs.Text.{room};
-ghost use Rattle.printout.specs.Named.{shown-name};
+ghost use Rattle.printout.specs.Text.{room, text-of};
+ghost use Rattle.printout.specs.Named.{shown-name, front-text};
 ghost use Rattle.printed.specs.Listing.{shown};
 ghost use Rattle.named.specs.Named.{named-room, named-text-of, names-of, named-call-text, named-of, list-size, list-refusal};
 ghost use Rattle.named.specs.Insert.{Behind, inserted, kind-as, action-as, name-as, IsLine};
@@ -101,28 +101,16 @@ fn with_name(line: Text, at: usize, name: &[u8]) -> NamedText
     put_part(named, &bytes, at, line.len)
 }
 
-// What a line shows of the record that was read: a line's kind and action, and a gap's.
-fn kind_of(read: RecordRead) -> u8
-    ensures { λ r. ⌜ r ≡ kind-as read ⌝ }
+// The front of the line of the record that was read; what is no input or output is shown as a gap.
+fn front_of(number: u64, read: RecordRead) -> Text
+    ensures { λ r. ⌜ r ≡ text-of (front-text number (kind-as read) (action-as read)) ⌝ }
 {
     match read {
-        RecordRead::Input(_, _) => 0,
-        RecordRead::Output(_, _) => 1,
-        RecordRead::Gap(_) => 2,
-        RecordRead::End(_) => 2,
-        RecordRead::Refused(_) => 2,
-    }
-}
-
-fn action_of(read: RecordRead) -> u8
-    ensures { λ r. ⌜ r ≡ action-as read ⌝ }
-{
-    match read {
-        RecordRead::Input(action, _) => action,
-        RecordRead::Output(action, _) => action,
-        RecordRead::Gap(_) => 0,
-        RecordRead::End(_) => 0,
-        RecordRead::Refused(_) => 0,
+        RecordRead::Input(action, _) => printout::front(number, 0, action),
+        RecordRead::Output(action, _) => printout::front(number, 1, action),
+        RecordRead::Gap(_) => printout::front(number, 2, 0),
+        RecordRead::End(_) => printout::front(number, 2, 0),
+        RecordRead::Refused(_) => printout::front(number, 2, 0),
     }
 }
 
@@ -153,7 +141,7 @@ fn named_line<'a>(
         → r ≡ named-text-of (named-call-text (names-of (now (site .entry)) (now (release .entry))) number (l .call) (l .after))) ⌝ }
 {
     let read = record_form::read_record(bytes, before);
-    let front = printout::front(number, kind_of(read), action_of(read));
+    let front = front_of(number, read);
     with_name(line, front.len, name_of(site, release, read))
 }
 

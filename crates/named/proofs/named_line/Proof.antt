@@ -18,34 +18,26 @@ use Rattle.named.proofs.named_line.Tie as tie
 
 -- the front is that of the record that was read
 abbrev read : tie.After-name-of → RecordRead
-read c = c .before .before .before .before .read-record .result
+read c = c .before .before .read-record .result
 
 abbrev number : tie.After-name-of → ℕ
-number c = c .before .before .before .before .before .before .before .before .args .number
+number c = c .before .before .before .before .before .before .args .number
 
-front-long : (c : tie.After-name-of) → c .before .front .result .len ≡ length (front-text (number c) (kind-as (read c)) (action-as (read c)))
-front-long c =
-    text-size (c .before .front .result) _
-    (c .before .front .ensures ∙ ap₂ (λ (a b : ℕ). text-of (front-text (number c) a b)) (c .before .before .before .kind-of .ensures) (c .before .before .action-of .ensures))
+front-long : (c : tie.After-name-of) → c .before .front-of .result .len ≡ length (front-text (number c) (kind-as (read c)) (action-as (read c)))
+front-long c = text-size (c .before .front-of .result) _ (c .before .front-of .ensures)
 
 read-record-requires : tie.Need-read-record-requires
 read-record-requires c κs = search needs
 
-kind-of-requires : tie.Need-kind-of-requires
-kind-of-requires c κs = search needs
-
-action-of-requires : tie.Need-action-of-requires
-action-of-requires c κs = search needs
-
-front-requires : tie.Need-front-requires
-front-requires c κs = search needs
+front-of-requires : tie.Need-front-of-requires
+front-of-requires c κs = search needs
 
 name-of-requires : tie.Need-name-of-requires
 name-of-requires c κs = search needs
 
 with-name-requires : tie.Need-with-name-requires
 with-name-requires c κs =
-    let k = c .before .before .before .before in
+    let k = c .before .before in
     let start = k .before .before .before .before in
     let a = start .args in
     let r = k .read-record .result in (
@@ -60,7 +52,7 @@ with-name-requires c κs =
 
 returns : tie.Need-returns
 returns c l =
-    let k = c .before .before .before .before .before in
+    let k = c .before .before .before in
     let a = k .before .before .before .before .args in
     let r = k .read-record .result in
     c .with-name .ensures
@@ -72,9 +64,7 @@ named-line-spec =
     tie.close
     (tie.spec
     read-record-requires
-    kind-of-requires
-    action-of-requires
-    front-requires
+    front-of-requires
     name-of-requires
     with-name-requires
     returns)

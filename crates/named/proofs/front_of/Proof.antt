@@ -1,0 +1,84 @@
+-- `named::front_of` meets its contract, kind by kind.
+use Prim.Native.Nat.{ℕ}
+use mathlib.Core.Path.{_≡_, sym, _∙_, ap}
+use Rattle.record_form.specs.declared.RecordRead.{RecordRead}
+use Rattle.printout.specs.Text.{text-of}
+use Rattle.printout.specs.Named.{front-text}
+use Rattle.named.specs.Insert.{kind-as, action-as}
+use borrow.Author.Needs.{needs}
+use Rattle.named.proofs.front_of.Statement.{statement}
+use Rattle.named.proofs.front_of.Tie as tie
+
+-- the same front, of the record that was read
+shown : (number : ℕ) {x r : RecordRead} → x ≡ r → text-of (front-text number (kind-as x) (action-as x)) ≡ text-of (front-text number (kind-as r) (action-as r))
+shown number e = ap (λ (y : RecordRead). text-of (front-text number (kind-as y) (action-as y))) e
+
+enum-known-read : tie.Need-enum-known-read
+enum-known-read c = search needs
+
+front-requires : tie.Need-front-requires
+front-requires c κs = search needs
+
+enum-known-read-2 : tie.Need-enum-known-read-2
+enum-known-read-2 c = search needs
+
+front-requires-2 : tie.Need-front-requires-2
+front-requires-2 c κs = search needs
+
+enum-told : tie.Need-enum-told
+enum-told c = search needs
+
+front-requires-3 : tie.Need-front-requires-3
+front-requires-3 c κs = search needs
+
+enum-told-2 : tie.Need-enum-told-2
+enum-told-2 c = search needs
+
+front-requires-4 : tie.Need-front-requires-4
+front-requires-4 c κs = search needs
+
+enum-told-3 : tie.Need-enum-told-3
+enum-told-3 c = search needs
+
+front-requires-5 : tie.Need-front-requires-5
+front-requires-5 c κs = search needs
+
+returns : tie.Need-returns
+unfolding kind-as action-as
+returns c = c .front .ensures ∙ shown (c .before .before .before .before .args .number) (sym (c .before .before .read .given .1))
+
+returns-2 : tie.Need-returns-2
+unfolding kind-as action-as
+returns-2 c = c .front2 .ensures ∙ shown (c .before .before .before .before .args .number) (sym (c .before .before .read2 .given .1))
+
+returns-3 : tie.Need-returns-3
+unfolding kind-as action-as
+returns-3 c = c .front3 .ensures ∙ shown (c .before .before .before .args .number) (sym (c .before .enum-told .given .1))
+
+returns-4 : tie.Need-returns-4
+unfolding kind-as action-as
+returns-4 c = c .front4 .ensures ∙ shown (c .before .before .before .args .number) (sym (c .before .enum-told2 .given .1))
+
+returns-5 : tie.Need-returns-5
+unfolding kind-as action-as
+returns-5 c = c .front5 .ensures ∙ shown (c .before .before .before .args .number) (sym (c .before .enum-told3 .given .1))
+
+pub front-of-spec : {M : Type 1} → statement M
+front-of-spec =
+    tie.close
+    (tie.spec
+    enum-known-read
+    front-requires
+    enum-known-read-2
+    front-requires-2
+    enum-told
+    front-requires-3
+    enum-told-2
+    front-requires-4
+    enum-told-3
+    front-requires-5
+    returns
+    returns-2
+    returns-3
+    returns-4
+    returns-5)
