@@ -1,9 +1,8 @@
 -- Document 02, CR 2, as theorems: the lists of names, `names::refused` and `names::name`, and the listing with names.
 use Prim.Native.Nat.{ℕ, zero, suc, _+_, _*_, _-_, _≤_, min}
 use mathlib.Core.Path.{_≡_, refl, sym, _∙_, ap, ap₂}
-use mathlib.Core.Bool.{Bool, true, false, cond, _||_}
+use mathlib.Core.Bool.{Bool, true, false, _||_}
 use mathlib.Core.List.{List, [], _∷_, _++_}
-use native.Mathlib.Nat.{zero-add}
 use native.Mathlib.Omega.{arith}
 use lib.ListN.{length, take, drop, length-take, length-drop}
 use lib.Seq.{getD-take}
@@ -11,15 +10,14 @@ use lib.Dec.{ltb}
 use borrow.Author.Tests.{ltb-true, ltb-false, lt-ltb, le-ltb}
 use Rattle.meaning.specs.Words.{Action}
 use Rattle.meaning.specs.Numbers.{given, first-of}
-use Rattle.property.specs.Meant.{action-of}
 use Rattle.record_form.specs.Record.{Bytes}
-use Rattle.names.specs.Names.{Entry, first-byte, list-form, entries, list-broken, names-in, action-number, Rising}
-use Rattle.names.specs.Lookup.{names-refusal, choice, name-of}
+use Rattle.names.specs.Names.{Entry, list-form, entries, list-broken, names-in, action-number, Rising}
+use Rattle.names.specs.Lookup.{names-refusal, span, wanted, choice, name-of, either-name}
 use Rattle.names.proofs.Spans.{good-long}
 use Rattle.names.proofs.Packed.{good-packs, packed-good}
 use Rattle.names.proofs.Handing.{number-is, choice-refused}
-use Rattle.names.proofs.Named.{either-name, name-is}
-use Rattle.names.proofs.Places.{span, of-site, of-release, of-neither}
+use Rattle.names.proofs.Named.{name-is}
+use Rattle.names.proofs.Places.{of-site, of-release, of-neither}
 -- Two lists that are taken with the same entries, or that give every action the same name, are the same bytes; an action has at most one
 -- entry.
 pub use Rattle.names.proofs.Packed.{one-packing as list-one-packing, one-entry}
@@ -54,32 +52,26 @@ demand-1-names site release output action =
 pub record Demand-name (site release : List ℕ) (output : Bool) (action : ℕ) : Type 0 where
   -- is the name of the site's entry for this action, in the place where the site's list has it: behind the entries before it and its own
   -- two bytes;
-  pub own : (xs : List Entry) (e : Entry) (ys : List Entry) → entries site ≡ xs ++ (e ∷ ys) → e .action ≡ action-of output action
+  pub own : (xs : List Entry) (e : Entry) (ys : List Entry) → entries site ≡ xs ++ (e ∷ ys) → e .action ≡ wanted output action
       → choice site release output action ≡ record { of-site = true; part = span (length (list-form xs) + 2) (length (e .name)) }
   -- where the site's list has none, that of the release's entry;
-  pub other : names-in site (action-of output action) ≡ [] → (xs : List Entry) (e : Entry) (ys : List Entry) → entries release ≡ xs ++ (e ∷ ys)
-      → e .action ≡ action-of output action
+  pub other : names-in site (wanted output action) ≡ [] → (xs : List Entry) (e : Entry) (ys : List Entry) → entries release ≡ xs ++ (e ∷ ys)
+      → e .action ≡ wanted output action
       → choice site release output action ≡ record { of-site = false; part = span (length (list-form xs) + 2) (length (e .name)) }
   -- "an empty part at the end of the release's list where neither has it";
-  pub neither : names-in site (action-of output action) ≡ [] → names-in release (action-of output action) ≡ []
+  pub neither : names-in site (wanted output action) ≡ [] → names-in release (wanted output action) ≡ []
       → choice site release output action ≡ record { of-site = false; part = span (length release) 0 }
   -- and its bytes are the name.
-  pub bytes : name-of site release output action ≡ either-name (names-in site (action-of output action)) (names-in release (action-of output action))
-
-first-same : (output : Bool) (action : ℕ) → cond output 128 0 + action ≡ first-byte (action-of output action)
-first-same true action = refl
-first-same false action = zero-add action
+  pub bytes : name-of site release output action ≡ either-name (names-in site (wanted output action)) (names-in release (wanted output action))
 
 pub demand-name : (site release : List ℕ) (output : Bool) (action : ℕ) → Bytes site → Bytes release → names-refusal site release action ≡ 0
     → Demand-name site release output action
 demand-name site release output action ss sr z =
-    let a = action-of output action in
-    let is = first-same output action in
     record {
-      own = of-site site release ss sr output action a is z;
-      other = of-release site release ss sr output action a is z;
-      neither = of-neither site release ss sr output action a is z;
-      bytes = name-is site release ss sr a output action is z;
+      own = of-site site release ss sr output action z;
+      other = of-release site release ss sr output action z;
+      neither = of-neither site release ss sr output action z;
+      bytes = name-is site release ss sr output action z;
     }
 
 -- ==== The lists of the second program: "Missing bytes of a list are 7 .. (7 stands before 11 and 12)". `named::list_refused` is given what
@@ -126,9 +118,9 @@ good number head list z = go (ltb (length head) 2 || ltb (length list) (list-siz
 names-by : (site release : List ℕ) → list-broken site ≡ false → list-broken release ≡ false → Bytes site → Bytes release → (a : Action) → action-number a ≤ 63
     → names-of site release a ≡ either-name (names-in site a) (names-in release a)
 names-by site release gs gr ss sr (Action.input k) h =
-    name-is site release ss sr (Action.input k) false k (zero-add k) (number-is site release k false false false (le-ltb 63 k h) gs gr)
+    name-is site release ss sr false k (number-is site release k false false false (le-ltb 63 k h) gs gr)
 names-by site release gs gr ss sr (Action.output k) h =
-    name-is site release ss sr (Action.output k) true k refl (number-is site release k false false false (le-ltb 63 k h) gs gr)
+    name-is site release ss sr true k (number-is site release k false false false (le-ltb 63 k h) gs gr)
 
 -- ==== The second program's listing, of all bytes that it is given: "The program judges the site's list, the release's list, then the rest;
 -- a bad list prints as a refused property does".

@@ -10,8 +10,8 @@ use lib.Dec.{ltb}
 use denote.Ref.{RefT, ptr, now}
 use borrow.Author.Tests.{ltb-false, eq-eqb, ne-eqb}
 use Rattle.meaning.specs.Numbers.{given, first-of}
-use Rattle.names.specs.Names.{entries, list-broken}
-use Rattle.names.specs.Lookup.{names-refusal, Span, name-span, Choice, asked, choice, Part, Handed}
+use Rattle.names.specs.Names.{first-byte, entries, list-broken}
+use Rattle.names.specs.Lookup.{names-refusal, Span, span, name-span, wanted, Choice, asked, choice, Part, Handed}
 use Rattle.names.proofs.Lists.{part-all}
 use Rattle.names.proofs.Spans.{Inside, part-at}
 
@@ -73,10 +73,10 @@ handed-other a b site release own r inside of-own h part = subst (λ (c : Choice
 
 module _ (site release : List ℕ) (output : Bool) (action : ℕ) where
   abbrev end : Choice
-  end = record { of-site = false; part = record { start = length release; size = 0 } }
+  end = record { of-site = false; part = span (length release) 0 }
 
   abbrev both : Choice
-  both = asked (name-span (entries site) (cond output 128 0 + action)) (name-span (entries release) (cond output 128 0 + action))
+  both = asked (name-span (entries site) (first-byte (wanted output action))) (name-span (entries release) (first-byte (wanted output action)))
 
   pub choice-refused : (names-refusal site release action ≡ 0 → ⊥) → choice site release output action ≡ end
   unfolding choice

@@ -10,8 +10,8 @@ use lib.Dec.{eqb}
 use denote.Ref.{RefT, now}
 use borrow.Author.Tests.{eqb-true, eqb-false}
 use Rattle.meaning.specs.Words.{Action}
-use Rattle.names.specs.Names.{Entry, first-byte, entry-form, list-form, name-in, list-broken, entries}
-use Rattle.names.specs.Lookup.{names-refusal, Span, name-span, Choice, asked, choice, Handed, part-of, name-of}
+use Rattle.names.specs.Names.{Entry, first-byte, entry-form, list-form, name-in, names-in, list-broken, entries}
+use Rattle.names.specs.Lookup.{names-refusal, Span, name-span, Choice, asked, choice, Handed, part-of, name-of, either-name, wanted}
 use Rattle.names.proofs.Spans.{shifted, span-by, Inside, name-inside}
 use Rattle.names.proofs.Packed.{Small, good-packs}
 use Rattle.names.proofs.Handing.{taken, choice-refused, choice-taken}
@@ -56,11 +56,6 @@ span-name (e ∷ es) a = go (eqb (first-byte (e .action)) (first-byte a)) refl (
 pub list-name : (list : List ℕ) → Small list → list-broken list ≡ false → (a : Action) → at (name-span (entries list) (first-byte a)) list ≡ name-in (entries list) a
 list-name list small good a = ap (at (name-span (entries list) (first-byte a))) (good-packs list small good .packed) ∙ span-name (entries list) a
 
--- The site's name, or the release's where the site has none.
-abbrev pub either-name : List ℕ → List ℕ → List ℕ
-either-name [] release = release
-either-name (b ∷ name) release = b ∷ name
-
 -- the choice of a part is the choice of a name
 asked-name : (site release : List ℕ) (p q : Span) → Inside p site → part-of (asked p q) site release ≡ either-name (at p site) (at q release)
 asked-name site release p q inside = go (eqb (p .size) 0) refl
@@ -83,16 +78,14 @@ asked-name site release p q inside = go (eqb (p .size) 0) refl
     go false h = parted false h ∙ some (at p site) (λ z. eqb-false (p .size) 0 h (sym long ∙ z))
 
 -- The name of an action by two lists that are taken.
-pub name-is : (site release : List ℕ) → Small site → Small release → (a : Action) (output : Bool) (action : ℕ) → cond output 128 0 + action ≡ first-byte a
-    → names-refusal site release action ≡ 0 → name-of site release output action ≡ either-name (name-in (entries site) a) (name-in (entries release) a)
+pub name-is : (site release : List ℕ) → Small site → Small release → (output : Bool) (action : ℕ) → names-refusal site release action ≡ 0
+    → name-of site release output action ≡ either-name (names-in site (wanted output action)) (names-in release (wanted output action))
 unfolding name-of
-name-is site release ss sr a output action first z =
+name-is site release ss sr output action z =
     let t = taken site release action z in
-    let p = name-span (entries site) in
-    let q = name-span (entries release) in
+    let a = wanted output action in
     ap (λ (c : Choice). part-of c site release) (choice-taken site release output action z)
-    ∙ ap (λ (n : ℕ). part-of (asked (p n) (q n)) site release) first
-    ∙ asked-name site release (p (first-byte a)) (q (first-byte a)) (name-inside site (first-byte a) (t .site-good))
+    ∙ asked-name site release (name-span (entries site) (first-byte a)) (name-span (entries release) (first-byte a)) (name-inside site (first-byte a) (t .site-good))
     ∙ ap₂ either-name (list-name site ss (t .site-good) a) (list-name release sr (t .release-good) a)
 
 -- None where the call is refused.
@@ -112,7 +105,7 @@ taken-short : (site release : List ℕ) (output : Bool) (action : ℕ) → names
 unfolding name-of
 taken-short site release output action z =
     let t = taken site release action z in
-    let first = cond output 128 0 + action in
+    let first = first-byte (wanted output action) in
     subst (λ (c : Choice). length (part-of c site release) ≤ 40) (sym (choice-taken site release output action z))
     (asked-short site release (name-span (entries site) first) (name-span (entries release) first) (name-inside site first (t .site-good) .short)
     (name-inside release first (t .release-good) .short))

@@ -9,14 +9,10 @@ use lib.Dec.{eqb}
 use borrow.Author.Tests.{eq-eqb, ne-eqb}
 use Rattle.meaning.specs.Words.{Action}
 use Rattle.names.specs.Names.{Entry, first-byte, entry-form, list-form, name-in, list-broken, entries, EntryGood, Rising}
-use Rattle.names.specs.Lookup.{names-refusal, Span, name-span, asked, choice}
+use Rattle.names.specs.Lookup.{names-refusal, Span, span, name-span, wanted, asked, choice}
 use Rattle.names.proofs.Spans.{shifted, span-by}
 use Rattle.names.proofs.Packed.{Small, good-packs, behind-above}
 use Rattle.names.proofs.Handing.{Taken, taken, choice-taken}
-
--- A part, by its two numbers.
-abbrev pub span : ℕ → ℕ → Span
-span start size = record { start = start; size = size }
 
 -- ---- in one list
 
@@ -57,8 +53,11 @@ nowhere least (e ∷ es) a r h = go (eqb (first-byte (e .action)) (first-byte a)
 
 -- ---- in two
 
-module _ (site release : List ℕ) (small-site : Small site) (small-release : Small release) (output : Bool) (action : ℕ) (a : Action)
-    (is : cond output 128 0 + action ≡ first-byte a) (z : names-refusal site release action ≡ 0) where
+module _ (site release : List ℕ) (small-site : Small site) (small-release : Small release) (output : Bool) (action : ℕ)
+    (z : names-refusal site release action ≡ 0) where
+  abbrev a : Action
+  a = wanted output action
+
   abbrev own : Span
   own = name-span (entries site) (first-byte a)
 
@@ -68,11 +67,8 @@ module _ (site release : List ℕ) (small-site : Small site) (small-release : Sm
   good : Taken site release action
   good = taken site release action z
 
-  chosen : choice site release output action ≡ asked own other
-  chosen = choice-taken site release output action z ∙ ap (λ (n : ℕ). asked (name-span (entries site) n) (name-span (entries release) n)) is
-
   asked-as : (p q : Span) → own ≡ p → other ≡ q → choice site release output action ≡ asked p q
-  asked-as p q e f = chosen ∙ ap₂ asked e f
+  asked-as p q e f = choice-taken site release output action z ∙ ap₂ asked e f
 
   -- the entry of a list that is taken: its place, and it has a name
   entry-at : (list : List ℕ) → Small list → list-broken list ≡ false → (xs : List Entry) (e : Entry) (ys : List Entry) → entries list ≡ xs ++ (e ∷ ys) → e .action ≡ a

@@ -7,26 +7,36 @@ use mathlib.Core.List.{List, [], _∷_}
 use lib.ListN.{length, take, drop}
 use lib.Dec.{ltb, eqb}
 use denote.Ref.{RefT, ptr, now}
+use Rattle.meaning.specs.Limits.{last-action}
+use Rattle.meaning.specs.Words.{Action}
 use Rattle.meaning.specs.Numbers.{given, first-of}
 use Rattle.names.specs.Names.{Entry, first-byte, entry-form, entries, list-broken}
 
 -- "Refusals: 11, site list broken; 12, release list broken; in that order, after the present ones", of which 3 is the only one here.
 unfoldable pub names-refusal : List ℕ → List ℕ → ℕ → ℕ
 names-refusal site release action =
-    first-of (given 3 (ltb 63 action)) (first-of (given 11 (list-broken site)) (given 12 (list-broken release)))
+    first-of (given 3 (ltb last-action action)) (first-of (given 11 (list-broken site)) (given 12 (list-broken release)))
 
 -- From which byte of a list a part begins, and how many bytes it has.
 pub record Span : Type 0 where
   pub start : ℕ
   pub size : ℕ
 
+abbrev pub span : ℕ → ℕ → Span
+span start size = record { start = start; size = size }
+
 -- Where these entries, packed, have the name for this first byte: behind the entries before it and its own two bytes. An empty part
 -- at their end where there is none.
 unfoldable pub name-span : List Entry → ℕ → Span
-name-span [] first = record { start = 0; size = 0 }
+name-span [] first = span 0 0
 name-span (e ∷ rest) first =
-    cond (eqb (first-byte (e .action)) first) (record { start = 2; size = length (e .name) })
-    (record { start = length (entry-form e) + name-span rest first .start; size = name-span rest first .size })
+    cond (eqb (first-byte (e .action)) first) (span 2 (length (e .name)))
+    (span (length (entry-form e) + name-span rest first .start) (name-span rest first .size))
+
+-- The action that is asked for: "a direction (bool) and an action number".
+abbrev pub wanted : Bool → ℕ → Action
+wanted true k = Action.output k
+wanted false k = Action.input k
 
 -- The part that is handed back: whether it is one of the site's list, and which.
 pub record Choice : Type 0 where
@@ -40,8 +50,8 @@ asked site release = cond (eqb (site .size) 0) (record { of-site = false; part =
 unfoldable pub choice : List ℕ → List ℕ → Bool → ℕ → Choice
 choice site release output action =
     cond (eqb (names-refusal site release action) 0)
-    (asked (name-span (entries site) (cond output 128 0 + action)) (name-span (entries release) (cond output 128 0 + action)))
-    (record { of-site = false; part = record { start = length release; size = 0 } })
+    (asked (name-span (entries site) (first-byte (wanted output action))) (name-span (entries release) (first-byte (wanted output action))))
+    (record { of-site = false; part = span (length release) 0 })
 
 -- r is this part of the list s, the place and what stands there.
 pub record Part (p : Span) (s r : RefT (List ℕ)) : Type 0 where
@@ -58,3 +68,8 @@ part-of c site release = take (c .part .size) (drop (c .part .start) (cond (c .o
 
 unfoldable pub name-of : List ℕ → List ℕ → Bool → ℕ → List ℕ
 name-of site release output action = part-of (choice site release output action) site release
+
+-- The site's name, or the release's where the site has none.
+abbrev pub either-name : List ℕ → List ℕ → List ℕ
+either-name [] release = release
+either-name (b ∷ name) release = b ∷ name

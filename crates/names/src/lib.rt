@@ -1,11 +1,11 @@
 // Names of actions: a site's list is asked first, and the release's second.
 ghost use mathlib.Core.Path.{_≡_};
-ghost use mathlib.Core.Bool.{cond, false, _||_};
+ghost use mathlib.Core.Bool.{false, _||_};
 ghost use Prim.Native.Nat.{_+_, _<_, _≤_};
 ghost use lib.ListN.{length};
 ghost use lib.Dec.{ltb};
-ghost use Rattle.names.specs.Names.{any-outside, zero-bit-set, size-outside, entry-size, entry-broken, list-broken, entries};
-ghost use Rattle.names.specs.Lookup.{names-refusal, name-span, asked, choice, Part, Handed};
+ghost use Rattle.names.specs.Names.{first-byte, any-outside, zero-bit-set, size-outside, entry-size, entry-broken, list-broken, entries};
+ghost use Rattle.names.specs.Lookup.{names-refusal, name-span, wanted, asked, choice, Part, Handed};
 use limits::LAST_ACTION;
 
 // "A list above 8,192 bytes counts as broken."
@@ -155,7 +155,7 @@ pub fn found<'a>(site: &'a [u8], release: &'a [u8], first: u8) -> &'a [u8]
 // The first byte of an entry for this action.
 fn first_byte(output: bool, action: u8) -> u8
     requires { ⌜ action ≤ 63 ⌝ }
-    ensures { λ r. ⌜ r ≡ cond output 128 0 + action ⌝ }
+    ensures { λ r. ⌜ r ≡ first-byte (wanted output action) ⌝ }
 {
     if output {
         return 128 + action;

@@ -6,7 +6,6 @@ use native.Mathlib.Omega.{arith}
 use lib.ListN.{length}
 use denote.Ref.{now}
 use Rattle.record_form.specs.declared.RecordRead.{RecordRead}
-use Rattle.printout.specs.Text.{text-of}
 use Rattle.printout.specs.Named.{front-text}
 use Rattle.printed.specs.Listing.{shown}
 use Rattle.named.specs.Named.{named-text-of}

@@ -1,8 +1,8 @@
 -- `names::first_byte` meets its contract.
-use Prim.Native.Nat.{_+_}
-use mathlib.Core.Path.{sym, ap, _∙_}
-use native.Mathlib.Nat.{zero-add}
-use mathlib.Core.Bool.{Bool, cond}
+use mathlib.Core.Path.{sym, ap}
+use mathlib.Core.Bool.{Bool}
+use Rattle.names.specs.Names.{first-byte}
+use Rattle.names.specs.Lookup.{wanted}
 use borrow.Author.Needs.{needs}
 use Rattle.names.proofs.first_byte.Statement.{statement}
 use Rattle.names.proofs.first_byte.Tie as tie
@@ -11,10 +11,10 @@ add-result : tie.Need-add-result
 add-result c = search needs
 
 returns : tie.Need-returns
-returns c = sym (ap (λ (t : Bool). cond t 128 0 + c .before .args .action) (c .if1 .taken))
+returns c = sym (ap (λ (t : Bool). first-byte (wanted t (c .before .args .action))) (c .if1 .taken))
 
 returns-2 : tie.Need-returns-2
-returns-2 c = sym (ap (λ (t : Bool). cond t 128 0 + c .before .args .action) (c .if1 .left) ∙ zero-add (c .before .args .action))
+returns-2 c = sym (ap (λ (t : Bool). first-byte (wanted t (c .before .args .action))) (c .if1 .left))
 
 pub first-byte-spec : {M : Type 1} → statement M
 first-byte-spec = tie.close (tie.spec add-result returns returns-2)
