@@ -11,21 +11,22 @@ use borrow.Author.Tests.{ltb-true, ltb-false, lt-ltb, le-ltb}
 use Rattle.meaning.specs.Words.{Action}
 use Rattle.meaning.specs.Numbers.{given, first-of}
 use Rattle.record_form.specs.Record.{Bytes}
-use Rattle.names.specs.Names.{Entry, list-form, entries, list-broken, names-in, action-number, Rising}
+use Rattle.name_list.specs.Names.{Entry, list-form, entries, list-broken, names-in, action-number, Rising}
 use Rattle.names.specs.Lookup.{names-refusal, span, wanted, choice, name-of, either-name}
-use Rattle.names.proofs.Spans.{good-long}
-use Rattle.names.proofs.Packed.{good-packs, packed-good}
+use Rattle.name_list.proofs.Good.{good-long}
+use Rattle.name_list.proofs.Packed.{good-packs, packed-good}
 use Rattle.names.proofs.Handing.{number-is, choice-refused}
 use Rattle.names.proofs.Named.{name-is}
 use Rattle.names.proofs.Places.{of-site, of-release, of-neither}
 -- Two lists that are taken with the same entries, or that give every action the same name, are the same bytes; an action has at most one
 -- entry.
-pub use Rattle.names.proofs.Packed.{one-packing as list-one-packing, one-entry}
-pub use Rattle.names.proofs.Meaning.{one-list}
+pub use Rattle.name_list.proofs.Packed.{one-packing as list-one-packing, one-entry}
+pub use Rattle.name_list.proofs.Meaning.{one-list}
 use Rattle.printout.specs.Text.{header-text, stop-text}
 use Rattle.printout.specs.Named.{named-header-text}
 use Rattle.printed.specs.Listing.{listing-of}
-use Rattle.named.specs.Named.{names-of, list-size, list-refusal}
+use Rattle.named.specs.Named.{names-of}
+use Rattle.name_list.specs.Read.{list-size, list-refusal}
 use Rattle.named.specs.Listing.{list-at, behind-list, property-at, behind-property, unless-bad, named-log, named-listing-of}
 use Rattle.demands.specs.Refuses.{Refuses}
 use Rattle.demands.specs.Names.{SameRows}
@@ -74,7 +75,7 @@ demand-name site release output action ss sr z =
       bytes = name-is site release ss sr output action z;
     }
 
--- ==== The lists of the second program: "Missing bytes of a list are 7 .. (7 stands before 11 and 12)". `named::list_refused` is given what
+-- ==== The lists of the second program: "Missing bytes of a list are 7 .. (7 stands before 11 and 12)". `name_list::refused` is given what
 -- was read of the two bytes and of the list that they announce.
 pub demand-1-lists : (number : ℕ) (input : List ℕ)
     → list-refusal number (take 2 input) (list-at input)

@@ -12,7 +12,8 @@ use Rattle.printout.specs.Named.{named-header-text}
 use Rattle.printed.specs.Printed.{begun-of}
 use Rattle.printed.specs.Listing.{and-more}
 use Rattle.named.specs.declared.NamedText.{NamedText}
-use Rattle.named.specs.Named.{named-of, list-size, list-refusal}
+use Rattle.named.specs.Named.{named-of}
+use Rattle.name_list.specs.Read.{list-size, list-refusal}
 
 -- The bytes of a text.
 abbrev pub named-shown : NamedText → List ℕ

@@ -1,12 +1,10 @@
 -- Document 02, CR 2: "A second program .. prints the same listing with one more field behind the action number".
-use Prim.Native.Nat.{ℕ, _+_, _*_, _-_}
-use mathlib.Core.Bool.{true, false, cond, _||_}
+use Prim.Native.Nat.{ℕ, _+_, _-_}
+use mathlib.Core.Bool.{true, false, cond}
 use mathlib.Core.List.{List, [], _++_}
-use lib.ListN.{length, replicate, getD}
-use lib.Dec.{ltb}
+use lib.ListN.{length, replicate}
 use Rattle.meaning.specs.Words.{Action}
 use Rattle.meaning.specs.Calls.{Call}
-use Rattle.meaning.specs.Numbers.{given, first-of}
 use Rattle.record_form.specs.Record.{gap}
 use Rattle.cuts.specs.Arrays.{number-of}
 use Rattle.session_record.specs.declared.Session.{Session}
@@ -16,7 +14,6 @@ use Rattle.walk.specs.Walk.{One, one-of}
 use Rattle.printout.specs.Text.{end-text, stop-text}
 use Rattle.printout.specs.Named.{named-line-text}
 use Rattle.printed.specs.Printed.{one-after, kind-of, printed-of}
-use Rattle.names.specs.Names.{list-broken}
 use Rattle.names.specs.Lookup.{name-of}
 use Rattle.named.specs.declared.Named.{Named}
 use Rattle.named.specs.declared.NamedText.{NamedText}
@@ -55,12 +52,3 @@ named-of site release s count bytes =
       count = printed-of s count bytes .count;
       more = printed-of s count bytes .more;
     }
-
--- "the two lists, each behind two bytes of its length", most significant first
-abbrev pub list-size : List ℕ → ℕ
-list-size head = 256 * getD head 0 0 + getD head 1 0
-
--- The refusal of a list by what was read of these two bytes and of the list: "7 if cut short", else the list's own number.
-unfoldable pub list-refusal : ℕ → List ℕ → List ℕ → ℕ
-list-refusal number head list =
-    first-of (given 7 (ltb (length head) 2 || ltb (length list) (list-size head))) (given number (list-broken list))

@@ -1,13 +1,12 @@
 // The listing with names: what the second program adds to it for each record, and what it says of a list of names.
 ghost use mathlib.Core.Path.{_≡_};
-ghost use mathlib.Core.Bool.{cond};
 ghost use mathlib.Core.List.{[], _∷_};
 ghost use Prim.Native.Nat.{_+_, _-_, _≤_, _<_};
 ghost use lib.ListN.{length, take, drop};
 ghost use Rattle.printout.specs.Text.{room, text-of};
 ghost use Rattle.printout.specs.Named.{shown-name, front-text};
 ghost use Rattle.printed.specs.Listing.{shown};
-ghost use Rattle.named.specs.Named.{named-room, named-text-of, names-of, named-call-text, named-of, list-size, list-refusal};
+ghost use Rattle.named.specs.Named.{named-room, named-text-of, names-of, named-call-text, named-of};
 ghost use Rattle.named.specs.Insert.{Behind, inserted, kind-as, action-as, name-as, IsLine};
 use printout::Text;
 use record_form::RecordRead;
@@ -168,30 +167,4 @@ pub fn record<'a>(site: &'a [u8], release: &'a [u8], s: Session, count: u64, byt
         count: r.count,
         more: false,
     }
-}
-
-// The number of bytes of a list behind these two, "most significant first".
-pub fn list_size(first: u8, second: u8) -> usize
-    ensures { λ r. ⌜ (r ≡ list-size (first ∷ second ∷ [])) × (r < 65536) ⌝ }
-{
-    256 * first as usize + second as usize
-}
-
-// The refusal of a list, the site's or the release's, by what was read of the two bytes before it and of the list; 0 for none.
-pub fn list_refused(of_release: bool, head: &[u8], list: &[u8]) -> u64
-    ensures { λ r. ⌜ r ≡ list-refusal (cond «of_release» 12 11) (now (head .entry)) (now (list .entry)) ⌝ }
-{
-    if head.len() < 2 {
-        return 7;
-    }
-    if list.len() < list_size(head[0], head[1]) {
-        return 7;
-    }
-    if names::broken(list) {
-        if of_release {
-            return 12;
-        }
-        return 11;
-    }
-    0
 }

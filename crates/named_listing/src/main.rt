@@ -29,10 +29,10 @@ fn read_list(fd: i32, of_release: bool, list: &mut [u8]) -> ListRead
 {
     let mut head = [0u8; 2];
     let got = io::read_full(fd, &mut head);
-    let size = named::list_size(head[0], head[1]);
+    let size = name_list::size(head[0], head[1]);
     let len = read_front(fd, list, size);
     ListRead {
-        refusal: named::list_refused(of_release, &head[..got], &list[..len]),
+        refusal: name_list::refused(of_release, &head[..got], &list[..len]),
         len: len,
     }
 }

@@ -10,9 +10,9 @@ use lib.Dec.{ltb}
 use denote.Ref.{RefT, ptr, now}
 use borrow.Author.Tests.{ltb-false, eq-eqb, ne-eqb}
 use Rattle.meaning.specs.Numbers.{given, first-of}
-use Rattle.names.specs.Names.{first-byte, entries, list-broken}
+use Rattle.name_list.specs.Names.{first-byte, entries, list-broken}
 use Rattle.names.specs.Lookup.{names-refusal, Span, span, name-span, wanted, Choice, asked, choice, Part, Handed}
-use Rattle.names.proofs.Lists.{part-all}
+use Rattle.name_list.proofs.Lists.{part-all}
 use Rattle.names.proofs.Spans.{Inside, part-at}
 
 -- ---- the number

@@ -10,10 +10,10 @@ use lib.Dec.{eqb}
 use denote.Ref.{RefT, now}
 use borrow.Author.Tests.{eqb-true, eqb-false}
 use Rattle.meaning.specs.Words.{Action}
-use Rattle.names.specs.Names.{Entry, first-byte, entry-form, list-form, name-in, names-in, list-broken, entries}
+use Rattle.name_list.specs.Names.{Entry, first-byte, entry-form, list-form, name-in, names-in, list-broken, entries}
 use Rattle.names.specs.Lookup.{names-refusal, Span, name-span, Choice, asked, choice, Handed, part-of, name-of, either-name, wanted}
 use Rattle.names.proofs.Spans.{shifted, span-by, Inside, name-inside}
-use Rattle.names.proofs.Packed.{Small, good-packs}
+use Rattle.name_list.proofs.Packed.{Small, good-packs}
 use Rattle.names.proofs.Handing.{taken, choice-refused, choice-taken}
 
 -- what is handed back has the name's bytes

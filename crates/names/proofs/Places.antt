@@ -8,10 +8,10 @@ use lib.ListN.{length, length-append}
 use lib.Dec.{eqb}
 use borrow.Author.Tests.{eq-eqb, ne-eqb}
 use Rattle.meaning.specs.Words.{Action}
-use Rattle.names.specs.Names.{Entry, first-byte, entry-form, list-form, name-in, list-broken, entries, EntryGood, Rising}
+use Rattle.name_list.specs.Names.{Entry, first-byte, entry-form, list-form, name-in, list-broken, entries, EntryGood, Rising}
 use Rattle.names.specs.Lookup.{names-refusal, Span, span, name-span, wanted, asked, choice}
 use Rattle.names.proofs.Spans.{shifted, span-by}
-use Rattle.names.proofs.Packed.{Small, good-packs, behind-above}
+use Rattle.name_list.proofs.Packed.{Small, good-packs, behind-above}
 use Rattle.names.proofs.Handing.{Taken, taken, choice-taken}
 
 -- ---- in one list

@@ -1,3 +1,2 @@
--- The definitions that a human must believe: name lists, and what a lookup hands back.
-pub mod Names
+-- The definitions that a human must believe: what a lookup hands back.
 pub mod Lookup

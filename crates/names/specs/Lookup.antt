@@ -10,7 +10,7 @@ use denote.Ref.{RefT, ptr, now}
 use Rattle.meaning.specs.Limits.{last-action}
 use Rattle.meaning.specs.Words.{Action}
 use Rattle.meaning.specs.Numbers.{given, first-of}
-use Rattle.names.specs.Names.{Entry, first-byte, entry-form, entries, list-broken}
+use Rattle.name_list.specs.Names.{Entry, first-byte, entry-form, entries, list-broken}
 
 -- "Refusals: 11, site list broken; 12, release list broken; in that order, after the present ones", of which 3 is the only one here.
 unfoldable pub names-refusal : List ℕ → List ℕ → ℕ → ℕ

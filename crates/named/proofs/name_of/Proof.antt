@@ -6,7 +6,7 @@ use mathlib.Core.List.{List, []}
 use lib.ListN.{length, take, drop}
 use lib.Seq.{drop-length}
 use denote.Ref.{now}
-use Rattle.names.proofs.Lists.{part-all}
+use Rattle.name_list.proofs.Lists.{part-all}
 use Rattle.names.proofs.Named.{handed-name}
 use Rattle.named.specs.Insert.{name-as}
 use borrow.Author.Needs.{needs}

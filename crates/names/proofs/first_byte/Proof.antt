@@ -1,7 +1,7 @@
 -- `names::first_byte` meets its contract.
 use mathlib.Core.Path.{sym, ap}
 use mathlib.Core.Bool.{Bool}
-use Rattle.names.specs.Names.{first-byte}
+use Rattle.name_list.specs.Names.{first-byte}
 use Rattle.names.specs.Lookup.{wanted}
 use borrow.Author.Needs.{needs}
 use Rattle.names.proofs.first_byte.Statement.{statement}

@@ -5,8 +5,9 @@ use mathlib.Core.List.{List}
 use native.Mathlib.Omega.{arith}
 use lib.ListN.{length, getD, drop-of-length-le}
 use denote.Ref.{now}
-use Rattle.names.proofs.Lists.{part-all}
-use Rattle.names.proofs.Spans.{Left, left-all, left-end, left-fits, left-here, left-on, good-long, part-at}
+use Rattle.name_list.proofs.Lists.{part-all}
+use Rattle.name_list.proofs.Good.{good-long}
+use Rattle.names.proofs.Spans.{Left, left-all, left-end, left-fits, left-here, left-on, part-at}
 use borrow.Author.Needs.{needs}
 use Rattle.names.proofs.lookup.Statement.{statement}
 use Rattle.names.proofs.lookup.Tie as tie

@@ -3,7 +3,7 @@ use Prim.Native.Nat.{ℕ}
 use mathlib.Core.Path.{_≡_, refl, sym, _∙_, ap}
 use native.Mathlib.Omega.{arith}
 use denote.Ref.{now}
-use Rattle.names.specs.Names.{entries}
+use Rattle.name_list.specs.Names.{entries}
 use Rattle.names.specs.Lookup.{names-refusal, name-span, asked}
 use Rattle.names.proofs.Handing.{Taken, taken, handed-as, choice-taken, handed-end}
 use borrow.Author.Needs.{needs}

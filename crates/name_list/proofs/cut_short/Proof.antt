@@ -1,15 +1,15 @@
--- `names::cut_short` meets its contract.
+-- `name_list::cut_short` meets its contract.
 use Prim.Native.Nat.{ℕ, _+_}
 use mathlib.Core.Path.{sym, ap}
 use native.Mathlib.Omega.{arith}
 use lib.ListN.{length}
 use lib.Dec.{ltb}
 use denote.Ref.{now}
-use Rattle.names.specs.Names.{entry-size}
+use Rattle.name_list.specs.Names.{entry-size}
 use borrow.Author.Tests.{lt-ltb}
 use borrow.Author.Needs.{needs}
-use Rattle.names.proofs.cut_short.Statement.{statement}
-use Rattle.names.proofs.cut_short.Tie as tie
+use Rattle.name_list.proofs.cut_short.Statement.{statement}
+use Rattle.name_list.proofs.cut_short.Tie as tie
 
 returns : tie.Need-returns
 returns c = let s = now (c .before .before .args .s) in sym (lt-ltb (length s) (entry-size s) (omega arith))

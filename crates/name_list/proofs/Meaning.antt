@@ -8,8 +8,8 @@ use lib.ListN.{length}
 use lib.Dec.{eqb, ltb}
 use borrow.Author.Tests.{ltb-true, ltb-false, eqb-true, eqb-false, eq-eqb, ne-eqb}
 use Rattle.meaning.specs.Words.{Action}
-use Rattle.names.specs.Names.{Entry, first-byte, action-read, name-in, names-in, list-broken, entries, EntryGood, Rising}
-use Rattle.names.proofs.Packed.{Small, good-packs, one-packing, first-good}
+use Rattle.name_list.specs.Names.{Entry, first-byte, action-read, name-in, names-in, list-broken, entries, EntryGood, Rising}
+use Rattle.name_list.proofs.Packed.{Small, good-packs, one-packing, first-good}
 
 -- the name at the front, or behind it
 name-by : (e : Entry) (es : List Entry) (a : Action) (t : Bool) → eqb (first-byte (e .action)) (first-byte a) ≡ t → name-in (e ∷ es) a ≡ cond t (e .name) (name-in es a)

@@ -1,37 +1,37 @@
--- `named::list_refused` meets its contract.
+-- `name_list::refused` meets its contract.
 use mathlib.Core.Path.{sym, _∙_}
 use mathlib.Core.Bool.{false}
 use Prim.Native.Nat.{_≤_}
 use native.Mathlib.Omega.{arith}
 use lib.ListN.{length}
 use denote.Ref.{now}
-use Rattle.named.specs.Named.{list-size}
-use Rattle.named.proofs.Lists.{short-head, short-list, judged, broken-release, broken-site}
+use Rattle.name_list.specs.Read.{list-size}
+use Rattle.name_list.proofs.Read.{short-head, short-list, judged, broken-release, broken-site}
 use borrow.Author.Needs.{needs}
-use Rattle.named.proofs.list_refused.Statement.{statement}
-use Rattle.named.proofs.list_refused.Tie as tie
+use Rattle.name_list.proofs.refused.Statement.{statement}
+use Rattle.name_list.proofs.refused.Tie as tie
 
 -- what is passed before the list is judged
 long-head : (c : tie.Else2) → 2 ≤ length (now (c .before .before .before .before .before .before .before .args .head))
 long-head c = c .before .before .before .before .if1 .left
 
 whole : (c : tie.Else2) → list-size (now (c .before .before .before .before .before .before .before .args .head)) ≤ length (now (c .before .before .before .before .before .before .before .args .list))
-whole c = omega (arith, c .before .list-size .ensures .0, c .if2 .left)
+whole c = omega (arith, c .before .size .ensures .0, c .if2 .left)
 
 returns : tie.Need-returns
 returns c = short-head _ _ _ (c .if1 .taken)
 
-shared-slice-read-list-size : tie.Need-shared-slice-read-list-size
-shared-slice-read-list-size c = search needs
+shared-slice-read-size : tie.Need-shared-slice-read-size
+shared-slice-read-size c = search needs
 
-shared-slice-read-list-size-2 : tie.Need-shared-slice-read-list-size-2
-shared-slice-read-list-size-2 c = search needs
+shared-slice-read-size-2 : tie.Need-shared-slice-read-size-2
+shared-slice-read-size-2 c = search needs
 
-list-size-requires : tie.Need-list-size-requires
-list-size-requires c κs = search needs
+size-requires : tie.Need-size-requires
+size-requires c κs = search needs
 
 returns-2 : tie.Need-returns-2
-returns-2 c = short-list _ _ _ (c .before .before .before .before .if1 .left) (omega (arith, c .before .list-size .ensures .0, c .if2 .taken))
+returns-2 c = short-list _ _ _ (c .before .before .before .before .if1 .left) (omega (arith, c .before .size .ensures .0, c .if2 .taken))
 
 broken-requires : tie.Need-broken-requires
 broken-requires c κs = search needs
@@ -49,14 +49,14 @@ returns-4 c =
 returns-5 : tie.Need-returns-5
 returns-5 c = let k = c .before .before in judged _ _ _ (long-head k) (whole k) false (sym (c .before .broken .ensures) ∙ c .if3 .left)
 
-pub list-refused-spec : {M : Type 1} → statement M
-list-refused-spec =
+pub refused-spec : {M : Type 1} → statement M
+refused-spec =
     tie.close
     (tie.spec
     returns
-    shared-slice-read-list-size
-    shared-slice-read-list-size-2
-    list-size-requires
+    shared-slice-read-size
+    shared-slice-read-size-2
+    size-requires
     returns-2
     broken-requires
     returns-3

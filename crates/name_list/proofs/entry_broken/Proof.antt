@@ -1,4 +1,4 @@
--- `names::entry_broken` meets its contract: the rules, one after the other.
+-- `name_list::entry_broken` meets its contract: the rules, one after the other.
 use Prim.Native.Nat.{ℕ, _+_, _-_, _≤_}
 use mathlib.Core.Bool.{false}
 use mathlib.Core.List.{List}
@@ -8,11 +8,11 @@ use denote.Ref.{now}
 use mathlib.Core.Path.{_≡_, sym, _∙_, ap}
 use native.Mathlib.Omega.{arith}
 use borrow.Author.Tests.{lt-ltb, le-ltb, ltb-false}
-use Rattle.names.specs.Names.{first, name-size, entry-size, zero-bit-set, size-outside, any-outside, entry-broken}
-use Rattle.names.proofs.Lists.{or-here, or-next}
+use Rattle.name_list.specs.Names.{first, name-size, entry-size, zero-bit-set, size-outside, any-outside, entry-broken}
+use Rattle.name_list.proofs.Lists.{or-here, or-next}
 use borrow.Author.Needs.{needs}
-use Rattle.names.proofs.entry_broken.Statement.{statement}
-use Rattle.names.proofs.entry_broken.Tie as tie
+use Rattle.name_list.proofs.entry_broken.Statement.{statement}
+use Rattle.name_list.proofs.entry_broken.Tie as tie
 
 whole : (c : tie.Else1) → ltb (length (now (c .before .before .before .args .s))) (entry-size (now (c .before .before .before .args .s))) ≡ false
 whole c = sym (c .before .cut-short .ensures) ∙ c .if1 .left

@@ -11,10 +11,10 @@ use lib.Dec.{ltb, eqb}
 use borrow.Author.Tests.{ltb-true, ltb-false, le-ltb, eq-eqb, ne-eqb}
 use Rattle.laws.proofs.Tests.{or-split, neither}
 use Rattle.meaning.specs.Words.{Action}
-use Rattle.names.specs.Names.{Entry, first-byte, entry-form, list-form, action-read, entry-read, entries-read, entries, AllInside, action-number, EntryGood, Rising}
-use Rattle.names.specs.Names.{first, name-size, entry-size, name-read, any-outside, entry-broken, entries-broken, list-broken}
-use Rattle.names.proofs.Lists.{Whole, good-step, broken-step, broken-end, read-step, read-end, name-long}
-use Rattle.names.proofs.Spans.{byte-read, good-entries}
+use Rattle.name_list.specs.Names.{Entry, first-byte, entry-form, list-form, action-read, entry-read, entries-read, entries, AllInside, action-number, EntryGood, Rising}
+use Rattle.name_list.specs.Names.{first, name-size, entry-size, name-read, any-outside, entry-broken, entries-broken, list-broken}
+use Rattle.name_list.proofs.Lists.{Whole, good-step, broken-step, broken-end, read-step, read-end, name-long}
+use Rattle.name_list.proofs.Good.{byte-read, good-entries}
 
 -- ---- the bytes of a name
 

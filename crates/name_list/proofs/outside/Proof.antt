@@ -1,9 +1,9 @@
--- `names::outside` meets its contract.
+-- `name_list::outside` meets its contract.
 use borrow.Author.Tests.{lt-ltb, le-ltb}
 use mathlib.Core.Path.{refl}
-use Rattle.names.proofs.Lists.{or-here, or-next}
-use Rattle.names.proofs.outside.Statement.{statement}
-use Rattle.names.proofs.outside.Tie as tie
+use Rattle.name_list.proofs.Lists.{or-here, or-next}
+use Rattle.name_list.proofs.outside.Statement.{statement}
+use Rattle.name_list.proofs.outside.Tie as tie
 
 returns : tie.Need-returns
 returns c = or-here _ (lt-ltb _ 33 (c .if1 .taken))

@@ -1,14 +1,14 @@
--- `names::any_outside` meets its contract. The loop's invariant: none of the bytes passed is outside.
+-- `name_list::any_outside` meets its contract. The loop's invariant: none of the bytes passed is outside.
 use Prim.Native.Nat.{ℕ, _-_, _≤_}
 use mathlib.Core.Path.{_≡_, refl, sym, _∙_, ap}
 use native.Mathlib.Numerals.{add-one}
 use borrow.Author.Needs.{needs}
 use lib.ListN.{length, drop}
 use denote.Ref.{now}
-use Rattle.names.specs.Names.{any-outside}
-use Rattle.names.proofs.Lists.{or-here, or-next, outside-step, outside-end}
-use Rattle.names.proofs.any_outside.Statement.{statement}
-use Rattle.names.proofs.any_outside.Tie as tie
+use Rattle.name_list.specs.Names.{any-outside}
+use Rattle.name_list.proofs.Lists.{or-here, or-next, outside-step, outside-end}
+use Rattle.name_list.proofs.any_outside.Statement.{statement}
+use Rattle.name_list.proofs.any_outside.Tie as tie
 
 abbrev Inv-loop : tie.InvT-loop
 Inv-loop name i₀ i = (i ≤ length name) × (any-outside (drop i name) ≡ any-outside name)

@@ -7,8 +7,8 @@ use lib.ListN.{length}
 use lib.Dec.{ltb}
 use borrow.Author.Tests.{lt-ltb, le-ltb}
 use Rattle.meaning.specs.Numbers.{given, first-of}
-use Rattle.names.specs.Names.{list-broken}
-use Rattle.named.specs.Named.{list-size, list-refusal}
+use Rattle.name_list.specs.Names.{list-broken}
+use Rattle.name_list.specs.Read.{list-size, list-refusal}
 
 module _ (number : ℕ) (head list : List ℕ) where
   pub short-head : length head < 2 → 7 ≡ list-refusal number head list

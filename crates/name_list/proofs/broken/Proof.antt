@@ -1,4 +1,4 @@
--- `names::broken` meets its contract. The loop's invariant: what is left decides, and there are no more entries in it than it has bytes.
+-- `name_list::broken` meets its contract. The loop's invariant: what is left decides, and there are no more entries in it than it has bytes.
 use Prim.Native.Nat.{ℕ, suc, _+_, _-_, _≤_}
 use mathlib.Core.Path.{_≡_, refl, sym, _∙_, ap, ap₂}
 use native.Mathlib.Omega.{arith}
@@ -6,11 +6,11 @@ use lib.ListN.{length, drop, getD, length-drop}
 use mathlib.Core.List.{List}
 use denote.Ref.{now}
 use borrow.Author.Tests.{lt-ltb, le-ltb}
-use Rattle.names.specs.Names.{entry-broken, entries-broken, list-broken}
-use Rattle.names.proofs.Lists.{or-here, or-next, part-all, broken-here, broken-end, On, broken-on, some-left}
+use Rattle.name_list.specs.Names.{entry-broken, entries-broken, list-broken}
+use Rattle.name_list.proofs.Lists.{or-here, or-next, part-all, broken-here, broken-end, On, broken-on, some-left}
 use borrow.Author.Needs.{needs}
-use Rattle.names.proofs.broken.Statement.{statement}
-use Rattle.names.proofs.broken.Tie as tie
+use Rattle.name_list.proofs.broken.Statement.{statement}
+use Rattle.name_list.proofs.broken.Tie as tie
 
 abbrev Inv-loop : tie.InvT-loop
 Inv-loop list i₀ least₀ i least =

@@ -10,7 +10,7 @@ use lib.Dec.{ltb}
 use lib.Seq.{length-take-le, take-all, drop-cons, drop-drop, getD-drop}
 use borrow.Author.Tests.{ltb-false, eqb-true, lt-ltb, le-ltb, not-false}
 use Rattle.laws.proofs.Tests.{or-split}
-use Rattle.names.specs.Names.{first, name-size, entry-size, name-read, any-outside, zero-bit-set, size-outside, entry-broken, entries-broken, entry-read, entries-read}
+use Rattle.name_list.specs.Names.{first, name-size, entry-size, name-read, any-outside, zero-bit-set, size-outside, entry-broken, entries-broken, entry-read, entries-read}
 
 pub broken-step : (most least : ℕ) (l : List ℕ) → 0 < length l
     → entries-broken (suc most) least l ≡ entry-broken least l || entries-broken most (suc (first l)) (drop (entry-size l) l)
