@@ -16,9 +16,9 @@ use Rattle.printout.specs.Text.{stop-text}
 use Rattle.printout.specs.Named.{front-text, named-line-text}
 use Rattle.printout.proofs.Fits.{line-fits, end-fits, stop-fits}
 use Rattle.names.proofs.Named.{name-short}
-use Rattle.named.specs.Named.{named-room, named-text-of, names-of, named-call-text, named-by-one, named-of}
-use Rattle.named.specs.Listing.{named-shown}
-use Rattle.named.proofs.Growth.{inserted-long}
+use Rattle.named.specs.Named.{names-of, named-call-text, named-by-one, named-of}
+use Rattle.named_text.specs.Text.{named-room, named-text-of, named-shown}
+use Rattle.named_text.proofs.Growth.{inserted-long}
 use Rattle.named.proofs.Lines.{inserted-line}
 
 pub named-held : (l : List ℕ) → named-shown (named-text-of l) ≡ l

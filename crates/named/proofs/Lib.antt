@@ -1,5 +1,4 @@
--- The proofs that belong to no one function: how a line with a name grows, and what a name is put into.
-pub mod Growth
+-- The proofs that belong to no one function: what a name is put into, that it fits, that each promise determines its result.
 pub mod Lines
 pub mod Fits
 pub mod Determined

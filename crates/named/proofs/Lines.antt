@@ -26,7 +26,8 @@ use Rattle.printed.specs.Listing.{shown}
 use Rattle.printed.specs.declared.Printed.{Printed}
 use Rattle.printed.specs.Printed.{one-after, call-text, last-line, by-one, printed-of}
 use Rattle.named.specs.Named.{names-of, named-call-text, named-by-one}
-use Rattle.named.specs.Insert.{inserted, kind-as, action-as, name-as, IsLine}
+use Rattle.named.specs.Insert.{kind-as, action-as, name-as, IsLine}
+use Rattle.named_text.specs.Text.{inserted}
 
 -- ---- a line is its front and its back
 

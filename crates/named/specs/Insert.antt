@@ -1,9 +1,8 @@
--- How a line with a name grows: what the private functions promise. No public promise names it.
-use Prim.Native.Nat.{ℕ, _+_, _≤_}
+-- What the private functions promise: no public promise names it.
+use Prim.Native.Nat.{ℕ}
 use mathlib.Core.Path.{_≡_}
 use mathlib.Core.Bool.{true, false}
-use mathlib.Core.List.{List, [], _∷_, _++_}
-use lib.ListN.{length, take, drop}
+use mathlib.Core.List.{List, []}
 use Rattle.meaning.specs.Calls.{Call}
 use Rattle.record_form.specs.Record.{input, output, gap, record-answer}
 use Rattle.record_form.specs.ReadAs.{ReadAs, read-as}
@@ -12,20 +11,8 @@ use Rattle.record_form.specs.declared.RecordRead.the-variants.{Input, Output, G
 use Rattle.session_record.specs.declared.Session.{Session}
 use Rattle.names.specs.Lookup.{name-of}
 use Rattle.printout.specs.declared.Text.{Text}
-use Rattle.printout.specs.Text.{space, text-of}
-use Rattle.printout.specs.Named.{shown-name}
+use Rattle.printout.specs.Text.{text-of}
 use Rattle.printed.specs.Printed.{call-text}
-use Rattle.named.specs.declared.NamedText.{NamedText}
-use Rattle.named.specs.Named.{named-room, named-text-of}
-
--- r is t with l behind it.
-pub record Behind (t : NamedText) (l : List ℕ) (r : NamedText) : Type 0 where
-  pub text : (front : List ℕ) → length front + length l ≤ named-room → t ≡ named-text-of front → r ≡ named-text-of (front ++ l)
-  pub longer : r .len ≡ t .len + length l
-
--- The line with a name behind its first so many bytes.
-abbrev pub inserted : ℕ → List ℕ → List ℕ → List ℕ
-inserted at name line = take at line ++ (space ∷ shown-name name) ++ drop at line
 
 -- What a line shows of the record that was read: its kind, its action and the name.
 unfoldable pub kind-as : RecordRead → ℕ

@@ -11,13 +11,9 @@ use Rattle.printout.specs.Text.{stop-text}
 use Rattle.printout.specs.Named.{named-header-text}
 use Rattle.printed.specs.Printed.{begun-of}
 use Rattle.printed.specs.Listing.{and-more}
-use Rattle.named.specs.declared.NamedText.{NamedText}
+use Rattle.named_text.specs.Text.{named-shown}
 use Rattle.named.specs.Named.{named-of}
 use Rattle.name_list.specs.Read.{list-size, list-refusal}
-
--- The bytes of a text.
-abbrev pub named-shown : NamedText → List ℕ
-named-shown t = take (t .len) (t .bytes)
 
 -- What at most so many records add, after `count` that were taken: as many bytes as a record has are read at a time.
 unfoldable pub named-lines-of : List ℕ → List ℕ → ℕ → Session → ℕ → List ℕ → List ℕ

@@ -1,8 +1,7 @@
 -- Document 02, CR 2: "A second program .. prints the same listing with one more field behind the action number".
-use Prim.Native.Nat.{ℕ, _+_, _-_}
+use Prim.Native.Nat.{ℕ, _-_}
 use mathlib.Core.Bool.{true, false, cond}
-use mathlib.Core.List.{List, [], _++_}
-use lib.ListN.{length, replicate}
+use mathlib.Core.List.{List, []}
 use Rattle.meaning.specs.Words.{Action}
 use Rattle.meaning.specs.Calls.{Call}
 use Rattle.record_form.specs.Record.{gap}
@@ -16,15 +15,7 @@ use Rattle.printout.specs.Named.{named-line-text}
 use Rattle.printed.specs.Printed.{one-after, kind-of, printed-of}
 use Rattle.names.specs.Lookup.{name-of}
 use Rattle.named.specs.declared.Named.{Named}
-use Rattle.named.specs.declared.NamedText.{NamedText}
-
--- The bytes of an answer: a line without a name fits 96, and a name of 40 with the space before it is 41 more.
-abbrev pub named-room : ℕ
-named-room = 144
-
--- The answer that holds a text: its bytes, zeros behind them, and their number.
-unfoldable pub named-text-of : List ℕ → NamedText
-named-text-of l = record { bytes = l ++ replicate (named-room - length l) 0; len = length l }
+use Rattle.named_text.specs.Text.{named-text-of}
 
 -- The name of each action by the two lists.
 abbrev pub names-of : List ℕ → List ℕ → Action → List ℕ

@@ -4,8 +4,8 @@
 ghost use Prim.Native.Nat.{_≤_};
 ghost use lib.ListN.{length};
 ghost use Rattle.io.specs.Counts.{Counts};
-ghost use Rattle.named.specs.Named.{named-room};
-use named::NamedText;
+ghost use Rattle.named_text.specs.Text.{named-room};
+use named_text::NamedText;
 use session_record::Session;
 
 // What was read of a list, and its refusal.

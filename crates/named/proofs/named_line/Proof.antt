@@ -8,8 +8,8 @@ use denote.Ref.{now}
 use Rattle.record_form.specs.declared.RecordRead.{RecordRead}
 use Rattle.printout.specs.Named.{front-text}
 use Rattle.printed.specs.Listing.{shown}
-use Rattle.named.specs.Named.{named-text-of}
-use Rattle.named.specs.Insert.{inserted, kind-as, action-as}
+use Rattle.named_text.specs.Text.{named-text-of, inserted}
+use Rattle.named.specs.Insert.{kind-as, action-as}
 use Rattle.named.proofs.Lines.{text-size, name-as-short, front-fits, line-long, with-its-name}
 use borrow.Author.Needs.{needs}
 use Rattle.named.proofs.named_line.Statement.{statement}

@@ -9,7 +9,8 @@ use Rattle.session_record.specs.declared.Session.{Session}
 use Rattle.printout.specs.Text.{room}
 use Rattle.printed.proofs.Fits.{printed-fits}
 use Rattle.printed.specs.declared.Printed.{Printed}
-use Rattle.named.specs.Named.{named-text-of, names-of, named-of}
+use Rattle.named.specs.Named.{names-of, named-of}
+use Rattle.named_text.specs.Text.{named-text-of}
 use Rattle.named.proofs.Lines.{Took, took, took-same, last-same}
 use borrow.Author.Needs.{needs}
 use Rattle.named.proofs.record.Statement.{statement}

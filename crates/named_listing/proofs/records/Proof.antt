@@ -3,7 +3,7 @@ use Prim.Native.Nat.{_≤_}
 use mathlib.Core.Path.{sym, subst}
 use native.Mathlib.Omega.{arith}
 use Rattle.named.specs.declared.Named.{Named}
-use Rattle.named.specs.Named.{named-room}
+use Rattle.named_text.specs.Text.{named-room}
 use Rattle.named.proofs.Fits.{named-fits}
 use borrow.Author.Needs.{needs}
 use Rattle.named_listing.proofs.records.Statement.{statement}

@@ -1,8 +1,8 @@
--- `named::put_name` meets its contract.
-use Rattle.named.proofs.Growth.{renamed, unnamed-shown, named-shown}
+-- `named_text::put_name` meets its contract.
+use Rattle.named_text.proofs.Growth.{renamed, unnamed-shown, named-shown}
 use borrow.Author.Needs.{needs}
-use Rattle.named.proofs.put_name.Statement.{statement}
-use Rattle.named.proofs.put_name.Tie as tie
+use Rattle.named_text.proofs.put_name.Statement.{statement}
+use Rattle.named_text.proofs.put_name.Tie as tie
 
 put-requires : tie.Need-put-requires
 put-requires c κs = search needs

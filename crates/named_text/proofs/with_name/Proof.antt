@@ -1,12 +1,12 @@
--- `named::with_name` meets its contract: the line's front, a space, the name and the line's back.
+-- `named_text::with_name` meets its contract: the line's front, a space, the name and the line's back.
 use Prim.Native.Nat.{_-_, _≤_}
 use native.Mathlib.Omega.{arith}
 use lib.ListN.{take, length-take}
 use denote.Ref.{now}
-use Rattle.named.proofs.Growth.{then, renamed, whole, joined, inserted-long, shown-long}
+use Rattle.named_text.proofs.Growth.{then, renamed, whole, joined, inserted-long, shown-long}
 use borrow.Author.Needs.{needs}
-use Rattle.named.proofs.with_name.Statement.{statement}
-use Rattle.named.proofs.with_name.Tie as tie
+use Rattle.named_text.proofs.with_name.Statement.{statement}
+use Rattle.named_text.proofs.with_name.Tie as tie
 
 -- the front has as many bytes as are asked for
 fronted : (c : tie.After-put-part) → c .put-part .result .len ≤ c .before .before .before .before .before .args .at

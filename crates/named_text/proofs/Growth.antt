@@ -10,9 +10,10 @@ use lib.Seq.{take-suc, take-all, take-take, take-add, drop-at, length-take-le}
 use Rattle.printout.proofs.Growth.{room-left}
 use Rattle.printout.specs.Text.{space, room}
 use Rattle.printout.specs.Named.{shown-name}
-use Rattle.named.specs.declared.NamedText.{NamedText}
-use Rattle.named.specs.Named.{named-room, named-text-of}
-use Rattle.named.specs.Insert.{Behind, inserted}
+use Rattle.named_text.specs.declared.NamedText.{NamedText}
+use Rattle.named_text.specs.Text.{named-room, named-text-of}
+use Rattle.named_text.specs.Behind.{Behind}
+use Rattle.named_text.specs.Text.{inserted}
 
 pub none-behind : (t : NamedText) → Behind t [] t
 none-behind t =

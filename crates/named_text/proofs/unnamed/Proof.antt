@@ -1,10 +1,10 @@
--- `named::unnamed` meets its contract.
+-- `named_text::unnamed` meets its contract.
 use native.Mathlib.Omega.{arith}
 use lib.ListN.{length-take}
-use Rattle.named.proofs.Growth.{renamed, whole, from-start}
+use Rattle.named_text.proofs.Growth.{renamed, whole, from-start}
 use borrow.Author.Needs.{needs}
-use Rattle.named.proofs.unnamed.Statement.{statement}
-use Rattle.named.proofs.unnamed.Tie as tie
+use Rattle.named_text.proofs.unnamed.Statement.{statement}
+use Rattle.named_text.proofs.unnamed.Tie as tie
 
 nothing-requires : tie.Need-nothing-requires
 nothing-requires c κs = search needs

@@ -1,8 +1,8 @@
--- `named::put` meets its contract.
-use Rattle.named.proofs.Growth.{byte-behind}
+-- `named_text::put` meets its contract.
+use Rattle.named_text.proofs.Growth.{byte-behind}
 use borrow.Author.Needs.{needs}
-use Rattle.named.proofs.put.Statement.{statement}
-use Rattle.named.proofs.put.Tie as tie
+use Rattle.named_text.proofs.put.Statement.{statement}
+use Rattle.named_text.proofs.put.Tie as tie
 
 element-write-r : tie.Need-element-write-r
 element-write-r c = search needs

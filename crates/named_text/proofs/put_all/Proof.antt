@@ -1,13 +1,13 @@
--- `named::put_all` meets its contract. The loop's invariant: the first i bytes are put.
+-- `named_text::put_all` meets its contract. The loop's invariant: the first i bytes are put.
 use Prim.Native.Nat.{_-_, _≤_}
 use native.Mathlib.Omega.{arith}
 use lib.ListN.{length, take, length-take}
 use denote.Ref.{now}
 use borrow.Author.Needs.{needs}
-use Rattle.named.specs.Insert.{Behind}
-use Rattle.named.proofs.Growth.{none-behind, next, last}
-use Rattle.named.proofs.put_all.Statement.{statement}
-use Rattle.named.proofs.put_all.Tie as tie
+use Rattle.named_text.specs.Behind.{Behind}
+use Rattle.named_text.proofs.Growth.{none-behind, next, last}
+use Rattle.named_text.proofs.put_all.Statement.{statement}
+use Rattle.named_text.proofs.put_all.Tie as tie
 
 abbrev Inv-loop : tie.InvT-loop
 Inv-loop bytes r₀ i₀ r i = (i ≤ length bytes) × Behind r₀ (take i bytes) r
