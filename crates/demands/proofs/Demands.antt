@@ -61,7 +61,7 @@ pub use Rattle.demands.proofs.Written.{written-trace}
 pub use Rattle.demands.proofs.Digits.{decimal-reads}
 pub use Rattle.demands.proofs.Forms.{begins-one-packing}
 -- Names (document 02, CR 2), in `Names`: the lists, `names::refused` and `name`, the listing with names.
-pub use Rattle.demands.proofs.Names.{list-taken, list-back, list-one-packing, one-list, one-entry, demand-1-names, demand-name, demand-1-lists, demand-named}
+pub use Rattle.demands.proofs.Names.{list-taken, list-back, list-one-packing, one-list, one-entry, demand-1-names, demand-name, demand-1-lists, demand-1-named, demand-named}
 
 -- ==== Demand 2, over the meaning. "After each line taken while the watcher isn't blind, the verdict on the run is exact."
 module _ (p : PropertyMeant) (good : property-refusal p ≡ 0) where

@@ -24,12 +24,20 @@ pub use Rattle.name_list.proofs.Packed.{one-packing as list-one-packing, one-en
 pub use Rattle.name_list.proofs.Meaning.{one-list}
 use Rattle.printout.specs.Text.{header-text, stop-text}
 use Rattle.printout.specs.Named.{named-header-text}
-use Rattle.printed.specs.Listing.{listing-of}
-use Rattle.named.specs.Named.{names-of}
+use Rattle.printout.proofs.Fits.{text-held}
+use Rattle.session_record.specs.declared.Session.{Session}
+use Rattle.walk.specs.Walk.{walk-of}
+use Rattle.printed.specs.declared.Printed.{Printed}
+use Rattle.printed.specs.Printed.{last-line, printed-of}
+use Rattle.printed.specs.Listing.{shown, listing-of}
+use Rattle.named_text.specs.Text.{named-text-of}
+use Rattle.named.proofs.Lines.{last-same}
+use Rattle.named.specs.Named.{names-of, named-of}
 use Rattle.name_list.specs.Read.{list-size, list-refusal}
 use Rattle.named.specs.Listing.{list-at, behind-list, property-at, behind-property, unless-bad, named-log, named-listing-of}
 use Rattle.demands.specs.Refuses.{Refuses}
 use Rattle.demands.specs.Names.{SameRows}
+use Rattle.demands.proofs.Listing.{refused-shown}
 use Rattle.demands.proofs.Named.{same-log}
 
 -- ==== A list. "A name list is packed entries .., with first bytes strictly rising": what is taken is the packing of its entries, which
@@ -122,6 +130,18 @@ names-by site release gs gr ss sr (Action.input k) h =
     name-is site release ss sr false k (number-is site release k false false false (le-ltb 63 k h) gs gr)
 names-by site release gs gr ss sr (Action.output k) h =
     name-is site release ss sr true k (number-is site release k false false false (le-ltb 63 k h) gs gr)
+
+-- `named::record` on any session record, also one that no calls made: what the walk of one record refuses (10 first) is the number that
+-- its last line names, whatever the lists, and the session and the count are as they were.
+pub demand-1-named : (site release : List ℕ) (s : Session) (count : ℕ) (bytes : List ℕ) (n : ℕ) → walk-of s bytes 1 .refusal ≡ suc n
+    → named-of site release s count bytes ≡ record { text = named-text-of (stop-text count (suc n)); session = s; count = count; more = false }
+unfolding named-of
+demand-1-named site release s count bytes n e =
+    let p : printed-of s count bytes ≡ last-line s count (stop-text count (suc n)) = refused-shown s count bytes n e in
+    let text = sym (last-same s count bytes (names-of site release) (printed-of s count bytes) refl (ap (λ (r : Printed). r .more) p))
+    ∙ ap (λ (r : Printed). shown (r .text)) p
+    ∙ text-held (stop-text count (suc n)) in
+    λ i. record { text = named-text-of (text i); session = p i .session; count = p i .count; more = p i .more }
 
 -- ==== The second program's listing, of all bytes that it is given: "The program judges the site's list, the release's list, then the rest;
 -- a bad list prints as a refused property does".
