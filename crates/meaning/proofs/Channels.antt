@@ -143,6 +143,10 @@ module _ (p : Property) where
   pub out-in-asks : (y x : Line) → Out y → In x → May p y x → y .stamp ≤ x .stamp + 2 * p .UB
   out-in-asks y x = out-in-asks′ (y .action) (y .stamp) (x .action) (x .stamp)
 
+  -- An input never stands before an output that is stamped no later: LB ≥ 1 is used here, and nowhere else.
+  pub never-before : Bounds p → (x y : Line) → In x → Out y → y .stamp ≤ x .stamp → May p x y → ⊥
+  never-before b x y i o h m = omega (arith, in-out-asks x y i o m, b .least)
+
 -- stamps along joined lists
 pub from-left : (t : ℕ) (xs ys : List Line) → StampsFrom t (xs ++ ys) → StampsFrom t xs
 from-left t [] ys f = tt

@@ -41,7 +41,7 @@ module _ (p : Property) where
       (first-of-none (stamp-refusal (w .latest) (l .stamp)) (first-of-none (given 3 (action-above (l .action))) e .1) .0)
   not-refused-late w (Call.mark g) e = not-refused-stamp (w .latest) (g .stamp) e
 
-  watched-append : (w : Watch) (a c : List Call) → watched p w (a ++ c) ≡ watched p (watched p w a) c
+  pub watched-append : (w : Watch) (a c : List Call) → watched p w (a ++ c) ≡ watched p (watched p w a) c
   unfolding watched
   watched-append w [] c = refl
   watched-append w (k ∷ a) c = watched-append (next p w k) a c

@@ -5,12 +5,13 @@ use mathlib.Core.Path.{_≡_, refl, sym, _∙_, ap, ap₂, subst}
 use mathlib.Core.Logic.{_⊎_, inl, inr}
 use mathlib.Core.List.{List, [], _∷_, _++_, append-eq-nil-iff, head-eq-of-cons-eq, tail-eq-of-cons-eq}
 use native.Mathlib.Omega.{arith}
+use native.Mathlib.Nat.{le-trans}
 use Rattle.meaning.specs.Words.{Property, Line}
 use Rattle.meaning.specs.Node.{ins, outs, Explanation}
 use Rattle.meaning.proofs.Lists.{All, all-head, all-tail, all-map, all-both, all-ins, all-outs, all-channels, ins-append, outs-append}
 use Rattle.meaning.proofs.Pairs.{Bounds, May, Pairs, none, first, Cross, pairs-append, pairs-left, pairs-right}
 use Rattle.meaning.proofs.Channels.{IsIn, IsOut, In, Out, in-or-out, ins-in, outs-out, ins-cons, outs-skip}
-use Rattle.meaning.proofs.Channels.{outs-cons, ins-skip, in-in, out-out, in-out, out-in, in-out-asks, out-in-asks}
+use Rattle.meaning.proofs.Channels.{outs-cons, ins-skip, in-in, out-out, in-out, out-in, out-in-asks, never-before}
 use Rattle.meaning.proofs.Facts.{explains-pairs, pairs-explain}
 
 -- Before a boundary at the stamp T₀, more than twice the upper bound; not after it; from it on.
@@ -74,12 +75,7 @@ module _ {p : Property} (b : Bounds p) (T₀ : ℕ) where
       input-late C′ c e h late =
           let os : outs u ≡ c ∷ (C′ ++ D) = sym (outs-skip l u h) ∙ o ∙ ap (λ (z : List Line). z ++ D) e in
           let m : Out c × May p l c = all-head (subst (All (λ z. Out z × May p l z)) os (all-both (outs-out u) (all-outs may))) in
-          let q : l .stamp + 2 * p .LB ≤ c .stamp = in-out-asks p l c h (m .0) (m .1) in
-          let early : c .stamp ≤ T₀ = all-head (subst (All (NotAfter T₀)) e ec) in
-          let late′ : T₀ ≤ l .stamp = late in
-          let one : 1 ≤ p .LB = b .least in
-          let z : ⊥ = omega arith in
-          z
+          never-before p b l c h (m .0) (le-trans (all-head (subst (All (NotAfter T₀)) e ec)) late) (m .1)
 
       output-late : (A′ : List Line) (a : Line) → A ≡ a ∷ A′ → Out l → Late T₀ l → ⊥
       output-late A′ a e h late =
