@@ -2,7 +2,7 @@
 -- `running p calls` is the session after any calls on a fresh one, `seen p calls` what those calls have come to by the rules.
 use Prim.Native.Nat.{ℕ, suc, _+_, _*_, _/_, _%_, _≤_, _<_}
 use mathlib.Core.Path.{_≡_, refl, sym, _∙_, ap}
-use mathlib.Core.Bool.{Bool, true, false, not}
+use mathlib.Core.Bool.{true, false, not}
 use mathlib.Core.List.{List, [], _∷_, _++_}
 use native.Mathlib.Omega.{arith}
 use lib.ListN.{length}
@@ -27,16 +27,14 @@ use Rattle.property_form.specs.Form.{property-form}
 use Rattle.property_form.proofs.Answers.{read-refused, taken-none, written-refused, left-refused}
 use Rattle.record_form.specs.Record.{Bytes, record-answer, read-refusal, fields-refusal, bytes-read, broken, stamp-above, write-refusal}
 use Rattle.record_form.specs.Record
-use Rattle.record_form.specs.Trace.{Entry, kind-of, entry-call, trace-form}
-use Rattle.cuts.specs.Steps.{line-of, fresh-by, refusal-by}
+use Rattle.record_form.specs.Trace.{trace-form}
+use Rattle.cuts.specs.Steps.{fresh-by, refusal-by}
 use Rattle.fields.specs.Fields.{field}
 use Rattle.session_record.specs.declared.Session.{Session}
 use Rattle.session_record.specs.Record.{record-of, cuts-of, out-of-range}
 use Rattle.session_record.specs.Step.{answer-of, refusal-of, fresh-of, stepped-of, no-session}
 use Rattle.session_record.proofs.Steps.{step-refused, answer-refusal, fresh-refused, fresh-taken}
 use Rattle.session_record.proofs.Running.{running-answer}
-use Rattle.kept.specs.Event.{call-of}
-use Rattle.kept.specs.declared.Event.the-variants as Kept
 use Rattle.walk.specs.Walk.{budget-of, walk-of, rest-start}
 use Rattle.stretch.specs.Judge.{judge-of, one-number}
 use Rattle.stretch.proofs.Judging.{one-long}
@@ -46,7 +44,7 @@ use Rattle.printed.specs.Listing.{listing-of}
 pub use Rattle.printed.proofs.Whole.{listing-taken, listing-refused, counted as listing-count}
 use Rattle.demands.specs.Refuses.{Refuses}
 use Rattle.demands.specs.Uses.{Use, session-through}
-use Rattle.demands.specs.Traces.{entry-of, first-met}
+use Rattle.demands.specs.Traces.{first-met}
 use Rattle.demands.proofs.Running.{running, seen, running-number, running-range}
 use Rattle.demands.proofs.Exact.{blind-kept, exact-kept, line-told, says-blind}
 use Rattle.demands.proofs.Walks.{WalkedOver, walk-over, walk-named, walk-rest}
@@ -62,6 +60,8 @@ pub use Rattle.demands.proofs.Digits.{decimal-reads}
 pub use Rattle.demands.proofs.Forms.{begins-one-packing}
 -- Names (document 02, CR 2), in `Names`: the lists, `names::refused` and `name`, the listing with names.
 pub use Rattle.demands.proofs.Names.{list-taken, list-back, list-one-packing, one-list, one-entry, demand-1-names, demand-name, demand-1-lists, demand-1-named, demand-named}
+-- What is called, in `Called`.
+pub use Rattle.demands.proofs.Called.{kinds, own-call, line-called, event-called}
 
 -- ==== Demand 2, over the meaning. "After each line taken while the watcher isn't blind, the verdict on the run is exact."
 module _ (p : PropertyMeant) (good : property-refusal p ≡ 0) where
@@ -232,25 +232,6 @@ pub record Demand-1-walk (s : Session) (bytes : List ℕ) (budget : ℕ) : Type 
 
 pub demand-1-walk : (s : Session) (bytes : List ℕ) (budget : ℕ) → Demand-1-walk s bytes budget
 demand-1-walk s bytes budget = record { named = walk-named s bytes budget; walked = walk-over s bytes budget; rest = walk-rest s bytes budget }
-
--- ==== What is called. "0 input, 1 output, 2 gap, 3 end":
-pub kinds : (k t : ℕ) → (kind-of (Entry.input k t) ≡ 0) × (kind-of (Entry.output k t) ≡ 1) × (kind-of (Entry.gap t) ≡ 2) × (Record.end ≡ 3)
-kinds k t = (refl, refl, refl, refl)
-
--- a record's call, of which walk and judge speak, is the call whose record it is;
-pub own-call : (e : Entry) → entry-of (entry-call e) ≡ e
-own-call (Entry.input k t) = refl
-own-call (Entry.output k t) = refl
-own-call (Entry.gap t) = refl
-
--- the arguments of `line` are those of a line;
-pub line-called : (k t : ℕ) → (entry-of (Call.line (line-of false k t)) ≡ Entry.input k t) × (entry-of (Call.line (line-of true k t)) ≡ Entry.output k t)
-line-called k t = (refl, refl)
-
--- and `kept::step`, whose promise is `stepped-of .. (call-of event)`, is the step by value on the session lent.
-pub event-called : (output : Bool) (k t : ℕ)
-    → (call-of (Kept.Line output k t) ≡ Call.line (line-of output k t)) × (call-of (Kept.Mark t) ≡ Call.mark (record { stamp = t }))
-event-called output k t = (refl, refl)
 
 -- ==== The judge: the first refusal met, in the order of document 01, and it stands alone. What is taken is one property's whole
 -- packing and one trace's, the count is the number of its records, each of them is taken from a fresh session, and the verdict's
