@@ -7,8 +7,8 @@ use mathlib.Core.List.{List, [], _∷_, _++_}
 use native.Mathlib.Omega.{arith}
 use lib.ListN.{length}
 use lib.Dec.{ltb, eqb}
-use Rattle.meaning.specs.Words.{Line, Property as PropertyMeant}
-use Rattle.meaning.specs.Node.{Breaks, Verdict, VerdictFor, verdict-number}
+use Rattle.meaning.specs.Words.{Line, Run, StampsFrom, Property as PropertyMeant}
+use Rattle.meaning.specs.Node.{Breaks, Verdict, VerdictFor, IsVerdict, verdict-number}
 use Rattle.meaning.specs.Numbers.{given, first-of, property-refusal}
 use Rattle.meaning.specs.Calls.{Mark, Call, fresh, watched, AllTaken, kept, Standing, open-of, Answer, IsAnswer, refusal}
 use Rattle.meaning.specs.Calls
@@ -18,6 +18,9 @@ use Rattle.meaning.proofs.Sets.{Reading}
 use Rattle.meaning.proofs.Lengths.{lengths-reading}
 use Rattle.meaning.proofs.Calls.{grown-agrees, standing-agrees, open-agrees, answer-agrees, answer-unique, standing-unique, few-cuts}
 use Rattle.meaning.proofs.Histories.{kept-same, kept-taken}
+use Rattle.stays_told.specs.Stays.{NeverFalls, ClosedNotAbove, StandingStays, AnswersStay}
+use Rattle.stays_told.proofs.NeverFalls.{never-falls}
+use Rattle.stays_told.proofs.Calls.{closed-not-above, standing-stays, answers-stay, has-verdict}
 use Rattle.property.specs.Meant.{meant}
 use Rattle.property.specs.declared.Property as Data
 use Rattle.property_form.specs.Read.{property-read, zeros, too-short, pad-broken, read-refusal as property-read-refusal, taken as property-taken}
@@ -60,8 +63,9 @@ pub use Rattle.demands.proofs.Digits.{decimal-reads}
 pub use Rattle.demands.proofs.Forms.{begins-one-packing}
 -- Names (document 02, CR 2), in `Names`: the lists, `names::refused` and `name`, the listing with names.
 pub use Rattle.demands.proofs.Names.{list-taken, list-back, list-one-packing, one-list, one-entry, demand-1-names, demand-name, demand-1-lists, demand-1-named, demand-named}
--- What is called, in `Called`.
+-- What is called (`Called`). A verdict once told stays told (document 02, CR 3): of the calls that run (`Told`), behind `running-3`.
 pub use Rattle.demands.proofs.Called.{kinds, own-call, line-called, event-called}
+pub use Rattle.demands.proofs.Told.{told-stays, closed-stays, session-stays, walk-stays, listing-stays, refused-stays}
 
 -- ==== Demand 2, over the meaning. "After each line taken while the watcher isn't blind, the verdict on the run is exact."
 module _ (p : PropertyMeant) (good : property-refusal p ≡ 0) where
@@ -118,6 +122,16 @@ module _ (p : PropertyMeant) (good : property-refusal p ≡ 0) where
         (cuts-verdict p (lengths p) (grown p calls))
     demand-3 first later e premises far no-mark =
         exact-kept p good calls earlier g between quiet first later e premises far no-mark (cuts-verdict p (lengths p) (grown p calls)) (demand-2 calls .exact)
+
+  -- ==== Behind demand 3 (document 02, CR 3): "A verdict once told stays told." Each run has a verdict, by demand 2 one;
+  pub stays-told : ((run : Run) → StampsFrom 0 run → (v : Verdict) × IsVerdict p run v)
+      -- its number on a longer run is not below the one on the shorter;
+      × NeverFalls p
+      -- closed by a gap mark it is not above the one that the same run followed by the lost lines would have had;
+      × ClosedNotAbove p
+      -- and within a run none that stands, or is answered, is below an earlier one.
+      × StandingStays p × AnswersStay p
+  stays-told = (has-verdict p good, never-falls p (R .bounds .least) (R .bounds .order), closed-not-above p good, standing-stays p good, answers-stay p good)
 
 -- ==== Demand 1. "For all bytes, numbers and call orders each call ends with its answer or a numbered refusal, given exactly when the
 -- rules say so. What is refused alters neither the session nor any buffer; lines taken earlier in the same call stay taken."
@@ -213,6 +227,10 @@ module _ (p : Data.Property) (good : property-refusal (meant p) ≡ 0) where
     running-3 first later e premises far no-mark =
         let t = line-told p good calls l taken in
         (t .0, exact-kept (meant p) good (calls ++ Call.line l ∷ []) earlier g between quiet first later e premises far no-mark (t .0) (t .1), t .2)
+
+  -- Told verdicts stay told (handed on above from `Told`): within a run no answer is below an earlier one (`told-stays`), a gap mark's is
+  -- not above the run's with the lost lines (`closed-stays`), none falls from session to session (`session-stays`), along the records of a
+  -- walk (`walk-stays`) and down a listing (`listing-stays`), and a refused call in between changes nothing (`refused-stays`).
 
   -- Lines, marks and walks in any mixture: the session is that of single calls in a row, so that all of this speaks of it,
   pub any-uses : (uses : List Use) → (calls : List Call) × (session-through (running p good []) uses ≡ running p good calls)

@@ -13,3 +13,4 @@ pub mod Digits
 pub mod Listing
 pub mod Named
 pub mod Names
+pub mod Told

@@ -12,7 +12,7 @@ use Rattle.demands.specs.Uses.{Use, session-after, session-through}
 use Rattle.demands.proofs.Running.{running, running-range, running-next}
 use Rattle.demands.proofs.Walks.{walk-over}
 
-through-append : (s : Session) (a b : List Call) → stepped-through s (a ++ b) ≡ stepped-through (stepped-through s a) b
+pub through-append : (s : Session) (a b : List Call) → stepped-through s (a ++ b) ≡ stepped-through (stepped-through s a) b
 unfolding stepped-through
 through-append s [] b = refl
 through-append s (c ∷ a) b = through-append (stepped-of s c .session) a b

@@ -4,3 +4,4 @@ pub mod Traces
 pub mod Uses
 pub mod Listing
 pub mod Names
+pub mod Told
