@@ -65,7 +65,7 @@ pub use Rattle.demands.proofs.Forms.{begins-one-packing}
 pub use Rattle.demands.proofs.Names.{list-taken, list-back, list-one-packing, one-list, one-entry, demand-1-names, demand-name, demand-1-lists, demand-1-named, demand-named}
 -- What is called (`Called`). A verdict once told stays told (document 02, CR 3): of the calls that run (`Told`), behind `running-3`.
 pub use Rattle.demands.proofs.Called.{kinds, own-call, line-called, event-called}
-pub use Rattle.demands.proofs.Told.{told-stays, closed-stays, session-stays, walk-stays, listing-stays, refused-stays}
+pub use Rattle.demands.proofs.Told.{told-stays, closed-stays, line-stands, session-stays, walk-stays, listing-stays, refused-stays}
 
 -- ==== Demand 2, over the meaning. "After each line taken while the watcher isn't blind, the verdict on the run is exact."
 module _ (p : PropertyMeant) (good : property-refusal p ≡ 0) where
@@ -228,9 +228,10 @@ module _ (p : Data.Property) (good : property-refusal (meant p) ≡ 0) where
         let t = line-told p good calls l taken in
         (t .0, exact-kept (meant p) good (calls ++ Call.line l ∷ []) earlier g between quiet first later e premises far no-mark (t .0) (t .1), t .2)
 
-  -- Told verdicts stay told (handed on above from `Told`): within a run no answer is below an earlier one (`told-stays`), a gap mark's is
-  -- not above the run's with the lost lines (`closed-stays`), none falls from session to session (`session-stays`), along the records of a
-  -- walk (`walk-stays`) and down a listing (`listing-stays`), and a refused call in between changes nothing (`refused-stays`).
+  -- Told verdicts stay told (handed on above from `Told`): within a run no answer is below an earlier one (`told-stays`), and a gap mark's
+  -- is not above the run's with the lost lines (`closed-stays`). A line's answer is the verdict standing on the session (`line-stands`),
+  -- and that does not fall with more calls (`session-stays`), along the records of a walk (`walk-stays`) or down a listing
+  -- (`listing-stays`); a refused call in between changes nothing (`refused-stays`).
 
   -- Lines, marks and walks in any mixture: the session is that of single calls in a row, so that all of this speaks of it,
   pub any-uses : (uses : List Use) → (calls : List Call) × (session-through (running p good []) uses ≡ running p good calls)

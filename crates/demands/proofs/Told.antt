@@ -10,7 +10,7 @@ use Rattle.meaning.specs.Words.{Line}
 use Rattle.meaning.specs.Words
 use Rattle.meaning.specs.Node.{Verdict, verdict-number, IsVerdict}
 use Rattle.meaning.specs.Numbers.{property-refusal}
-use Rattle.meaning.specs.Calls.{Mark, Call, fresh, watched, kept, refusal, Standing}
+use Rattle.meaning.specs.Calls.{Mark, Call, fresh, watched, kept, Standing}
 use Rattle.meaning.specs.Step.{lengths, grown, cuts-answer}
 use Rattle.meaning.specs.History.{Event, fed, all-lines, Premises}
 use Rattle.meaning.proofs.Lengths.{lengths-reading}
@@ -26,8 +26,8 @@ use Rattle.session_record.proofs.Steps.{step-refused, answer-refusal}
 use Rattle.session_record.proofs.Running.{running-answer}
 use Rattle.demands.specs.Listing.{Shows}
 use Rattle.demands.specs.Told.{Row, unless-gap, NotBelow, StayTold, walk-rows, shown-rows}
-use Rattle.demands.proofs.Running.{running, seen, running-next, running-range}
-use Rattle.demands.proofs.Exact.{standing-told, says-blind}
+use Rattle.demands.proofs.Running.{running, seen, running-number, running-next, running-range}
+use Rattle.demands.proofs.Exact.{line-told, standing-told, says-blind}
 use Rattle.demands.proofs.Walks.{walk-over}
 use Rattle.demands.proofs.Listing.{ShownAs}
 use Rattle.demands.proofs.Uses.{through-append}
@@ -38,7 +38,7 @@ module _ (p : Property) (good : property-refusal (meant p) ≡ 0) where
 
   -- The verdict answered to a later line of the same run, or to the gap mark that closes it, is not below an earlier answer.
   pub told-stays : (calls : List Call) (l : Line) (more : List Call) (c : Call) → SameRun q (seen p good (calls ++ Call.line l ∷ [])) more
-      → refusal q (seen p good (calls ++ Call.line l ∷ more)) c ≡ 0
+      → stepped-of (running p good (calls ++ Call.line l ∷ more)) c .answer .refusal ≡ 0
       → stepped-of (running p good calls) (Call.line l) .answer .verdict ≤ stepped-of (running p good (calls ++ Call.line l ∷ more)) c .answer .verdict
   told-stays calls l more c s t =
       let R = lengths-reading q good in
@@ -46,7 +46,7 @@ module _ (p : Property) (good : property-refusal (meant p) ≡ 0) where
       let a = cuts-answer q (lengths q) (grown q calls) (Call.line l) in
       let b = cuts-answer q (lengths q) (grown q later) c in
       let h : a .verdict ≤ b .verdict =
-      answers-stay q good calls l more c s t a b (answer-agrees R (grown-agrees R calls) (Call.line l)) (answer-agrees R (grown-agrees R later) c) in
+      answers-stay q good calls l more c s (sym (running-number p good later c) ∙ t) a b (answer-agrees R (grown-agrees R calls) (Call.line l)) (answer-agrees R (grown-agrees R later) c) in
       omega (arith, h, ap (λ x. x .verdict) (running-answer p good calls (Call.line l)), ap (λ x. x .verdict) (running-answer p good later c))
 
   -- The verdict that a gap mark answers is not above the one that the run, followed by the lost lines, would have had.
@@ -69,6 +69,14 @@ module _ (p : Property) (good : property-refusal (meant p) ≡ 0) where
       through-append s calls (c ∷ more)
       ∙ ap (λ x. stepped-through (x .session) more) (step-refused (running p good calls) c (suc n) (sym (answer-refusal (running p good calls) c) ∙ e) (λ z. omega arith))
       ∙ sym (through-append s calls more)
+
+  -- The verdict answered to a line that is taken is the one standing on the session after it.
+  pub line-stands : (calls : List Call) (l : Line) → stepped-of (running p good calls) (Call.line l) .answer .refusal ≡ 0
+      → stepped-of (running p good calls) (Call.line l) .answer .verdict ≡ standing (stepped-of (running p good calls) (Call.line l) .session)
+  line-stands calls l e =
+      let t = line-told p good calls l (sym (running-number p good calls (Call.line l)) ∙ e) in
+      let v = standing-told p good (calls ++ Call.line l ∷ []) in
+      t .2 ∙ ap verdict-number (v .3 (t .0) (t .1)) ∙ sym (v .2) ∙ ap standing (running-next p good calls (Call.line l))
 
   -- The verdict standing on the session after more calls of the same run is not below the one that stood before them.
   pub session-stays : (calls more : List Call) → SameRun q (seen p good calls) more → standing (running p good calls) ≤ standing (running p good (calls ++ more))
