@@ -123,7 +123,8 @@ module _ (p : PropertyMeant) (good : property-refusal p ≡ 0) where
     demand-3 first later e premises far no-mark =
         exact-kept p good calls earlier g between quiet first later e premises far no-mark (cuts-verdict p (lengths p) (grown p calls)) (demand-2 calls .exact)
 
-  -- ==== Behind demand 3 (document 02, CR 3): "A verdict once told stays told." Each run has a verdict, by demand 2 one;
+  -- ==== Behind demand 3 (document 02, CR 3): "A verdict once told stays told." A lower bound of at least 1 is needed for it (`stays_told`,
+  -- `lower-bound-needed`). Every run has a verdict, and one only (`verdict-unique`);
   pub stays-told : ((run : Run) → StampsFrom 0 run → (v : Verdict) × IsVerdict p run v)
       -- its number on a longer run is not below the one on the shorter;
       × NeverFalls p
@@ -228,10 +229,9 @@ module _ (p : Data.Property) (good : property-refusal (meant p) ≡ 0) where
         let t = line-told p good calls l taken in
         (t .0, exact-kept (meant p) good (calls ++ Call.line l ∷ []) earlier g between quiet first later e premises far no-mark (t .0) (t .1), t .2)
 
-  -- Told verdicts stay told (handed on above from `Told`): within a run no answer is below an earlier one (`told-stays`), and a gap mark's
-  -- is not above the run's with the lost lines (`closed-stays`). A line's answer is the verdict standing on the session (`line-stands`),
-  -- and that does not fall with more calls (`session-stays`), along the records of a walk (`walk-stays`) or down a listing
-  -- (`listing-stays`); a refused call in between changes nothing (`refused-stays`).
+  -- Told verdicts stay told (`Told`): within a run no answer is below an earlier one (`told-stays`), a gap mark's is not above the run's
+  -- with the lost lines (`closed-stays`), and the verdict standing on the session, a line's answer (`line-stands`), does not fall with more
+  -- calls (`session-stays`), along a walk (`walk-stays`) or down a listing (`listing-stays`). Refused calls change nothing (`refused-stays`).
 
   -- Lines, marks and walks in any mixture: the session is that of single calls in a row, so that all of this speaks of it,
   pub any-uses : (uses : List Use) → (calls : List Call) × (session-through (running p good []) uses ≡ running p good calls)
