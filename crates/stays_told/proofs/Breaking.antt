@@ -5,6 +5,7 @@ use mathlib.Core.Logic.{_⊎_, inl, inr}
 use mathlib.Core.List.{List, [], _∷_, _++_, map, map-append, append-assoc, head-eq-of-cons-eq, nil≢cons}
 use Rattle.meaning.specs.Words.{Action, Property, Line}
 use Rattle.meaning.specs.Node.{actions, Breach, Breaks}
+use Rattle.meaning.specs.History.{LoggedAfter, BreaksAfter}
 use Rattle.meaning.proofs.Lists.{All, all-head, all-right, map-split, two-splits}
 use Rattle.meaning.proofs.Channels.{IsIn, In}
 
@@ -28,75 +29,116 @@ no-output {w} h before k after e =
     go [] h e = nil≢cons e
     go (y ∷ vs) h e = subst IsIn (head-eq-of-cons-eq e) (all-head h)
 
-module _ {p : Property} where
-  -- what breaks with inputs at its end breaks without them
-  breaks-front : (u w : List Line) → All In w → Breaks p (u ++ w) → Breaks p u
-  breaks-front u w hw h = pick (two-splits u w (h .before) (h .behind) (h .stands))
+module _ (p : Property) (between : List ℕ) where
+  abbrev before-answer : List Action
+  before-answer = p .sequence ++ map Action.input between
+
+  occurs : {behind : List Action} (h : Breach p between behind) → behind ≡ before-answer ++ Action.output (h .answer) ∷ h .after
+  occurs h = h .occurs ∙ sym (append-assoc (p .sequence) (map Action.input between) (Action.output (h .answer) ∷ h .after))
+
+  -- a breach ends with an output: none is in inputs alone,
+  breach-inputs : (w : List Line) → All In w → Breach p between (actions w) → ⊥
+  breach-inputs w hw h = no-output hw before-answer (h .answer) (h .after) (occurs h)
+
+  -- inputs behind it can be left out,
+  breach-fewer : (m w : List Line) → All In w → Breach p between (actions (m ++ w)) → Breach p between (actions m)
+  breach-fewer m w hw h =
+      go (two-splits (actions m) (actions w) before-answer (Action.output (h .answer) ∷ h .after) (sym (map-append (λ (l : Line). l .action) m w) ∙ occurs h))
     where
-      br : Breach p (h .between) (actions (h .behind))
-      br = h .breach
+      go : ((k : List Action) × (before-answer ≡ actions m ++ k) × (actions w ≡ k ++ Action.output (h .answer) ∷ h .after))
+          ⊎ ((a : Action) × (k : List Action) × (actions m ≡ before-answer ++ a ∷ k) × (Action.output (h .answer) ∷ h .after ≡ a ∷ (k ++ actions w)))
+          → Breach p between (actions m)
+      go (inl r) = absurd (no-output hw (r .0) (h .answer) (h .after) (r .2))
+      go (inr r) =
+          record {
+            answer = h .answer;
+            after = r .1;
+            occurs =
+                r .2 ∙ ap (λ (a : Action). before-answer ++ a ∷ r .1) (sym (head-eq-of-cons-eq (r .3)))
+                ∙ append-assoc (p .sequence) (map Action.input between) (Action.output (h .answer) ∷ r .1);
+            outside = h .outside;
+          }
 
-      X : List Action
-      X = p .sequence ++ map Action.input (h .between)
+  -- and anything may stand behind it.
+  breach-more : (m v : List Line) → Breach p between (actions m) → Breach p between (actions (m ++ v))
+  breach-more m v h =
+      let last : List Action = Action.output (h .answer) ∷ h .after in
+      record {
+        answer = h .answer;
+        after = h .after ++ actions v;
+        occurs =
+            map-append (λ (l : Line). l .action) m v
+            ∙ ap (λ (z : List Action). z ++ actions v) (h .occurs)
+            ∙ append-assoc (p .sequence) (map Action.input between ++ last) (actions v)
+            ∙ ap (λ (z : List Action). p .sequence ++ z) (append-assoc (map Action.input between) last (actions v));
+        outside = h .outside;
+      }
 
-      occurs : actions (h .behind) ≡ X ++ Action.output (br .answer) ∷ br .after
-      occurs = br .occurs ∙ sym (append-assoc (p .sequence) (map Action.input (h .between)) (Action.output (br .answer) ∷ br .after))
+-- Breaches of a sort that end with an output.
+pub record Ends (Breaking : List Line → Type 0) : Type 0 where
+  pub fewer : (u w : List Line) → All In w → Breaking (u ++ w) → Breaking u
+  pub more : (u v : List Line) → Breaking u → Breaking (u ++ v)
 
-      -- the breach's output stands in the first part
-      inside : (m : List Line) → actions (m ++ w) ≡ X ++ Action.output (br .answer) ∷ br .after
-          → (after : List Action) × (actions m ≡ X ++ Action.output (br .answer) ∷ after)
-      inside m e = go (two-splits (actions m) (actions w) X (Action.output (br .answer) ∷ br .after) (sym (map-append (λ (l : Line). l .action) m w) ∙ e))
-        where
-          go : ((k : List Action) × (X ≡ actions m ++ k) × (actions w ≡ k ++ Action.output (br .answer) ∷ br .after))
-              ⊎ ((a : Action) × (k : List Action) × (actions m ≡ X ++ a ∷ k) × (Action.output (br .answer) ∷ br .after ≡ a ∷ (k ++ actions w)))
-              → (after : List Action) × (actions m ≡ X ++ Action.output (br .answer) ∷ after)
-          go (inl r) = absurd (no-output hw (r .0) (br .answer) (br .after) (r .2))
-          go (inr r) = (r .1, r .2 ∙ ap (λ (a : Action). X ++ a ∷ r .1) (sym (head-eq-of-cons-eq (r .3))))
+pub breaks-with : {Breaking : List Line → Type 0} → Ends Breaking → {l : Line} {shorter longer : List Line} → With l shorter longer → Breaking shorter → Breaking longer
+breaks-with {Breaking} k {l} w h =
+    subst Breaking (sym (w .within)) (k .more (w .front) (l ∷ w .back) (k .fewer (w .front) (w .back) (w .inputs) (subst Breaking (w .without) h)))
 
-      pick : ((m : List Line) × (h .before ≡ u ++ m) × (w ≡ m ++ h .behind)) ⊎ ((y : Line) × (m : List Line) × (u ≡ h .before ++ y ∷ m) × (h .behind ≡ y ∷ (m ++ w)))
+module _ (p : Property) where
+  pub breaks-ends : Ends (Breaks p)
+  breaks-ends =
+      record {
+        fewer = λ u w hw h. pick u w hw h (two-splits u w (h .before) (h .behind) (h .stands));
+        more = λ u v h. record {
+          before = h .before;
+          behind = h .behind ++ v;
+          stands = ap (λ (z : List Line). z ++ v) (h .stands) ∙ append-assoc (h .before) (h .behind) v;
+          between = h .between;
+          breach = breach-more p (h .between) (h .behind) v (h .breach);
+        };
+      }
+    where
+      pick : (u w : List Line) → All In w → (h : Breaks p (u ++ w))
+          → ((m : List Line) × (h .before ≡ u ++ m) × (w ≡ m ++ h .behind)) ⊎ ((y : Line) × (m : List Line) × (u ≡ h .before ++ y ∷ m) × (h .behind ≡ y ∷ (m ++ w)))
           → Breaks p u
-      pick (inl r) = absurd (no-output (all-right (r .0) (h .behind) (subst (All In) (r .2) hw)) X (br .answer) (br .after) occurs)
-      pick (inr r) =
-          let i = inside (r .0 ∷ r .1) (ap actions (sym (r .3)) ∙ occurs) in
+      pick u w hw h (inl r) = absurd (breach-inputs p (h .between) (h .behind) (all-right (r .0) (h .behind) (subst (All In) (r .2) hw)) (h .breach))
+      pick u w hw h (inr r) =
           record {
             before = h .before;
             behind = r .0 ∷ r .1;
             stands = r .2;
             between = h .between;
-            breach =
-                record {
-                  answer = br .answer;
-                  after = i .0;
-                  occurs = i .1 ∙ append-assoc (p .sequence) (map Action.input (h .between)) (Action.output (br .answer) ∷ i .0);
-                  outside = br .outside;
-                };
+            breach = breach-fewer p (h .between) (r .0 ∷ r .1) w hw (subst (λ (z : List Line). Breach p (h .between) (actions z)) (r .3) (h .breach));
           }
 
-  -- what breaks breaks with anything behind it
-  pub breaks-longer : (u v : List Line) → Breaks p u → Breaks p (u ++ v)
-  breaks-longer u v h =
-      let br : Breach p (h .between) (actions (h .behind)) = h .breach in
-      let between : List Action = map Action.input (h .between) in
-      let last : List Action = Action.output (br .answer) ∷ br .after in
+  -- those that begin with a line logged after `earlier`
+  pub after-ends : (earlier : List Line) → Ends (BreaksAfter p earlier)
+  after-ends earlier =
       record {
-        before = h .before;
-        behind = h .behind ++ v;
-        stands = ap (λ (z : List Line). z ++ v) (h .stands) ∙ append-assoc (h .before) (h .behind) v;
-        between = h .between;
-        breach =
-            record {
-              answer = br .answer;
-              after = br .after ++ actions v;
-              occurs =
-                  map-append (λ (l : Line). l .action) (h .behind) v
-                  ∙ ap (λ (z : List Action). z ++ actions v) (br .occurs)
-                  ∙ append-assoc (p .sequence) (between ++ last) (actions v)
-                  ∙ ap (λ (z : List Action). p .sequence ++ z) (append-assoc between last (actions v));
-              outside = br .outside;
-            };
+        fewer = λ u w hw h. pick u w hw h (two-splits u w (h .before) (h .first ∷ h .behind) (h .stands));
+        more = λ u v h. record {
+          before = h .before;
+          first = h .first;
+          behind = h .behind ++ v;
+          stands = ap (λ (z : List Line). z ++ v) (h .stands) ∙ append-assoc (h .before) (h .first ∷ h .behind) v;
+          begins = h .begins;
+          between = h .between;
+          breach = breach-more p (h .between) (h .first ∷ h .behind) v (h .breach);
+        };
       }
-
-  pub breaks-with : {l : Line} {shorter longer : List Line} → With l shorter longer → Breaks p shorter → Breaks p longer
-  breaks-with {l} w h =
-      subst (Breaks p) (sym (w .within))
-      (breaks-longer (w .front) (l ∷ w .back) (breaks-front (w .front) (w .back) (w .inputs) (subst (Breaks p) (w .without) h)))
+    where
+      pick : (u w : List Line) → All In w → (h : BreaksAfter p earlier (u ++ w))
+          → ((m : List Line) × (h .before ≡ u ++ m) × (w ≡ m ++ h .first ∷ h .behind))
+          ⊎ ((y : Line) × (m : List Line) × (u ≡ h .before ++ y ∷ m) × (h .first ∷ h .behind ≡ y ∷ (m ++ w)))
+          → BreaksAfter p earlier u
+      pick u w hw h (inl r) =
+          absurd (breach-inputs p (h .between) (h .first ∷ h .behind) (all-right (r .0) (h .first ∷ h .behind) (subst (All In) (r .2) hw)) (h .breach))
+      pick u w hw h (inr r) =
+          record {
+            before = h .before;
+            first = r .0;
+            behind = r .1;
+            stands = r .2;
+            begins = subst (λ (z : Line). LoggedAfter earlier (h .before) (z .action)) (head-eq-of-cons-eq (r .3)) (h .begins);
+            between = h .between;
+            breach = breach-fewer p (h .between) (r .0 ∷ r .1) w hw (subst (λ (z : List Line). Breach p (h .between) (actions z)) (r .3) (h .breach));
+          }

@@ -10,7 +10,7 @@ use Rattle.meaning.specs.Words.{Property, Line, Run, StampsFrom}
 use Rattle.meaning.specs.Node.{Breaks, Verdict, verdict-number, IsVerdict}
 use Rattle.meaning.specs.Numbers.{property-refusal}
 use Rattle.meaning.specs.Calls.{Mark, Call, Watch, fresh, beyond, with-line, refusal, taken, unless-refused, next, watched, kept, Standing}
-use Rattle.meaning.specs.Calls.{Answer, AnswerBy}
+use Rattle.meaning.specs.Calls.{Answer, AnswerBy, IsAnswer}
 use Rattle.meaning.specs.Matcher.{Lengths}
 use Rattle.meaning.specs.Step.{Front, Cuts, lengths, front-with, fresh-front, front-verdict, grown, cuts-verdict}
 use Rattle.meaning.specs.History.{Event, fed, all-lines, NoMark}
@@ -124,6 +124,15 @@ module _ (p : Property) where
   on-open : (w : Watch) (v : Verdict) → w .is-blind ≡ false → Standing p w v → IsVerdict p (w .run) v
   on-open w v e h = subst (λ (b : Bool). cond b (v ≡ Verdict.blind) (IsVerdict p (w .run) v)) e h
 
+  -- a gap mark's answer is not above n where the verdict that stands is not; refused it is 0
+  pub mark-at-most : (w : Watch) (g : Mark) (a : Answer) (n : ℕ) → IsAnswer p w (Call.mark g) a → ((v : Verdict) → Standing p w v → verdict-number v ≤ n)
+      → a .verdict ≤ n
+  mark-at-most w g a n h most = by (refusal p w (Call.mark g)) h
+    where
+      by : (m : ℕ) → AnswerBy m p w (Call.mark g) a → a .verdict ≤ n
+      by zero k = subst (λ (i : ℕ). i ≤ n) (sym (k .told)) (most (k .verdict) (k .stands))
+      by (suc m) k = subst (λ (i : ℕ). i ≤ n) (sym (ap (λ (x : Answer). x .verdict) k)) (omega arith)
+
   -- "A refused call in between changes nothing."
   pub refused-between : (calls : List Call) (c : Call) (more : List Call) (n : ℕ) → refusal p (watched p fresh calls) c ≡ suc n
       → watched p fresh (calls ++ c ∷ more) ≡ watched p fresh (calls ++ more)
@@ -209,7 +218,8 @@ module _ (p : Property) (good : property-refusal p ≡ 0) where
           (to-call c t (subst (λ (n : ℕ). AnswerBy n p later c b) t hb) (h .verdict) (subst (λ (x : Watch). Standing p x (h .verdict)) (sym after) (h .stands)))
 
   pub closed-not-above : ClosedNotAbove p
-  closed-not-above calls logged behind fed-is premises is-open g a ha w hw = by (refusal p at (Call.mark g)) ha
+  closed-not-above calls logged behind fed-is premises is-open g a ha w hw =
+      mark-at-most p at g a (verdict-number w) ha (λ v h. never (at .run) (all-lines behind) rising v w (on-open p at v is-open h) hw)
     where
       at : Watch
       at = watched p fresh calls
@@ -219,8 +229,3 @@ module _ (p : Property) (good : property-refusal p ≡ 0) where
       rising =
           subst (λ (x : Watch). StampsFrom 0 (x .run ++ all-lines behind)) (ap (watched p fresh) (sym fed-is) ∙ kept-same p fresh calls)
           (run-logged p fresh logged (all-lines behind) (subst (StampsFrom 0) (lines-append logged behind) (premises .never-fall)))
-
-      by : (n : ℕ) → AnswerBy n p at (Call.mark g) a → a .verdict ≤ verdict-number w
-      by (suc n) h = subst (λ (m : ℕ). m ≤ verdict-number w) (sym (ap (λ (x : Answer). x .verdict) h)) (omega arith)
-      by zero h =
-          subst (λ (m : ℕ). m ≤ verdict-number w) (sym (h .told)) (never (at .run) (all-lines behind) rising (h .verdict) w (on-open p at (h .verdict) is-open (h .stands)) hw)

@@ -4,9 +4,9 @@ use mathlib.Core.Path.{_≡_}
 use mathlib.Core.Bool.{false}
 use mathlib.Core.List.{List, [], _∷_, _++_}
 use Rattle.meaning.specs.Words.{Property, Line, Run, StampsFrom}
-use Rattle.meaning.specs.Node.{Verdict, verdict-number, IsVerdict}
+use Rattle.meaning.specs.Node.{Verdict, verdict-number, VerdictFor, IsVerdict}
 use Rattle.meaning.specs.Calls.{Mark, Call, Watch, fresh, watched, kept, refusal, Standing, Answer, IsAnswer}
-use Rattle.meaning.specs.History.{Event, fed, all-lines, Premises, NoMark}
+use Rattle.meaning.specs.History.{Event, fed, all-lines, Premises, NoMark, BreaksAfter}
 
 -- "within a run the verdict never falls, over the definition and for all further lines with stamps that do not fall": its number
 -- on the longer run is not below the one on the shorter.
@@ -14,6 +14,13 @@ abbrev pub NeverFalls : Property → Type 0
 NeverFalls p =
     (run : Run) (more : List Line) → StampsFrom 0 (run ++ more)
     → (v w : Verdict) → IsVerdict p run v → IsVerdict p (run ++ more) w → verdict-number v ≤ verdict-number w
+
+-- The same over a full history, for breaches that begin, at the node, with a line logged after `earlier`, as demand 3 has them.
+abbrev pub NeverFallsAfter : Property → Type 0
+NeverFallsAfter p =
+    (earlier history more : List Line) → StampsFrom 0 (history ++ more)
+    → (v w : Verdict) → VerdictFor (BreaksAfter p earlier) p history v → VerdictFor (BreaksAfter p earlier) p (history ++ more) w
+    → verdict-number v ≤ verdict-number w
 
 -- "a verdict closed by a gap mark is not above the one that the same run followed by the lost lines would have had, under demand
 -- 3's premise on lost lines". The calls taken so far are what the watcher was fed of what was `logged`, a run is open, and a gap mark
