@@ -18,8 +18,8 @@ use Rattle.meaning.proofs.Sets.{Reading}
 use Rattle.meaning.proofs.Lengths.{lengths-reading}
 use Rattle.meaning.proofs.Calls.{grown-agrees, standing-agrees, open-agrees, answer-agrees, answer-unique, standing-unique, few-cuts}
 use Rattle.meaning.proofs.Histories.{kept-same, kept-taken}
-use Rattle.stays_told.specs.Stays.{NeverFalls, ClosedNotAbove, StandingStays, AnswersStay}
-use Rattle.stays_told.proofs.NeverFalls.{never-falls}
+use Rattle.stays_told.specs.Stays.{NeverFalls, NeverFallsAfter, ClosedNotAbove, StandingStays, AnswersStay}
+use Rattle.stays_told.proofs.NeverFalls.{never-falls, never-falls-after}
 use Rattle.stays_told.proofs.Calls.{closed-not-above, standing-stays, answers-stay, has-verdict}
 use Rattle.property.specs.Meant.{meant}
 use Rattle.property.specs.declared.Property as Data
@@ -65,7 +65,7 @@ pub use Rattle.demands.proofs.Forms.{begins-one-packing}
 pub use Rattle.demands.proofs.Names.{list-taken, list-back, list-one-packing, one-list, one-entry, demand-1-names, demand-name, demand-1-lists, demand-1-named, demand-named}
 -- What is called (`Called`). A verdict once told stays told (document 02, CR 3): of the calls that run (`Told`), behind `running-3`.
 pub use Rattle.demands.proofs.Called.{kinds, own-call, line-called, event-called}
-pub use Rattle.demands.proofs.Told.{told-stays, closed-stays, line-stands, session-stays, walk-stays, listing-stays, refused-stays}
+pub use Rattle.demands.proofs.Told.{told-stays, closed-stays, closed-history, line-stands, session-stays, walk-stays, listing-stays, refused-stays}
 
 -- ==== Demand 2, over the meaning. "After each line taken while the watcher isn't blind, the verdict on the run is exact."
 module _ (p : PropertyMeant) (good : property-refusal p ≡ 0) where
@@ -126,13 +126,13 @@ module _ (p : PropertyMeant) (good : property-refusal p ≡ 0) where
   -- ==== Behind demand 3 (document 02, CR 3): "A verdict once told stays told." A lower bound of at least 1 is needed for it (`stays_told`,
   -- `lower-bound-needed`). Every run has a verdict, and one only (`verdict-unique`);
   pub stays-told : ((run : Run) → StampsFrom 0 run → (v : Verdict) × IsVerdict p run v)
-      -- its number on a longer run is not below the one on the shorter;
-      × NeverFalls p
+      -- its number on a longer run, or history, is not below the one on the shorter;
+      × NeverFalls p × NeverFallsAfter p
       -- closed by a gap mark it is not above the one that the same run followed by the lost lines would have had;
       × ClosedNotAbove p
       -- and within a run none that stands, or is answered, is below an earlier one.
       × StandingStays p × AnswersStay p
-  stays-told = (has-verdict p good, never-falls p (R .bounds .least) (R .bounds .order), closed-not-above p good, standing-stays p good, answers-stay p good)
+  stays-told = (has-verdict p good, never-falls p (R .bounds .least) (R .bounds .order), never-falls-after p (R .bounds .least) (R .bounds .order), closed-not-above p good, standing-stays p good, answers-stay p good)
 
 -- ==== Demand 1. "For all bytes, numbers and call orders each call ends with its answer or a numbered refusal, given exactly when the
 -- rules say so. What is refused alters neither the session nor any buffer; lines taken earlier in the same call stay taken."
@@ -230,12 +230,12 @@ module _ (p : Data.Property) (good : property-refusal (meant p) ≡ 0) where
         (t .0, exact-kept (meant p) good (calls ++ Call.line l ∷ []) earlier g between quiet first later e premises far no-mark (t .0) (t .1), t .2)
 
   -- Told verdicts stay told (`Told`): within a run no answer is below an earlier one (`told-stays`), a gap mark's is not above the run's
-  -- with the lost lines (`closed-stays`), and the verdict standing on the session, a line's answer (`line-stands`), does not fall with more
-  -- calls (`session-stays`), along a walk (`walk-stays`) or down a listing (`listing-stays`). Refused calls change nothing (`refused-stays`).
+  -- with the lost lines (`closed-stays`) or the full history's (`closed-history`), and the verdict standing on the session, which a line
+  -- answers (`line-stands`), does not fall with more calls (`session-stays`, `refused-stays`), a walk or a listing (`walk-stays`, `listing-stays`).
 
   -- Lines, marks and walks in any mixture: the session is that of single calls in a row, so that all of this speaks of it,
-  pub any-uses : (uses : List Use) → (calls : List Call) × (session-through (running p good []) uses ≡ running p good calls)
-  any-uses uses = uses-are-calls p good [] uses
+  pub any-uses : (calls : List Call) (uses : List Use) → (more : List Call) × (session-through (running p good calls) uses ≡ running p good (calls ++ more))
+  any-uses calls uses = uses-are-calls p good calls uses
 
   -- and a walk takes the trace's own records, in order, as many as it says it took, each as a single call. It is refused as the first
   -- record not taken is, and "lines taken earlier in the same call stay taken".

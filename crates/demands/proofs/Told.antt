@@ -1,22 +1,24 @@
 -- A verdict once told stays told (document 02, CR 3), of the calls that run: the numbers that calls answer, that a walk's records
 -- leave and that a listing shows.
-use Prim.Native.Nat.{ℕ, suc, _≤_, _<_}
+use Prim.Native.Nat.{ℕ, suc, _+_, _*_, _≤_, _<_}
 use mathlib.Core.Path.{_≡_, refl, sym, _∙_, ap, subst}
 use mathlib.Core.Bool.{Bool, true, false}
 use mathlib.Core.List.{List, [], _∷_, _++_}
 use native.Mathlib.Omega.{arith}
 use native.Mathlib.Nat.{le-trans}
-use Rattle.meaning.specs.Words.{Line}
+use Rattle.meaning.specs.Words.{Line, StampsFrom}
 use Rattle.meaning.specs.Words
-use Rattle.meaning.specs.Node.{Verdict, verdict-number, IsVerdict}
+use Rattle.meaning.specs.Node.{Verdict, verdict-number, VerdictFor, IsVerdict}
 use Rattle.meaning.specs.Numbers.{property-refusal}
 use Rattle.meaning.specs.Calls.{Mark, Call, fresh, watched, kept, Standing}
 use Rattle.meaning.specs.Step.{lengths, grown, cuts-answer}
-use Rattle.meaning.specs.History.{Event, fed, all-lines, Premises}
+use Rattle.meaning.specs.History.{Event, fed, all-lines, Premises, highest, Quiet, NoMark, BreaksAfter}
 use Rattle.meaning.proofs.Lengths.{lengths-reading}
 use Rattle.meaning.proofs.Calls.{grown-agrees, answer-agrees}
+use Rattle.meaning.proofs.Histories.{lines-append}
 use Rattle.stays_told.specs.Stays.{SameRun}
-use Rattle.stays_told.proofs.Calls.{standing-stays, answers-stay, closed-not-above, still-open, with-line-more}
+use Rattle.stays_told.proofs.NeverFalls.{never-falls-after}
+use Rattle.stays_told.proofs.Calls.{standing-stays, answers-stay, closed-not-above, mark-at-most, still-open, with-line-more}
 use Rattle.property.specs.Meant.{meant}
 use Rattle.property.specs.declared.Property.{Property}
 use Rattle.record_form.specs.Trace.{Entry, entry-call}
@@ -27,7 +29,7 @@ use Rattle.session_record.proofs.Running.{running-answer}
 use Rattle.demands.specs.Listing.{Shows}
 use Rattle.demands.specs.Told.{Row, unless-gap, NotBelow, StayTold, walk-rows, shown-rows}
 use Rattle.demands.proofs.Running.{running, seen, running-number, running-next, running-range}
-use Rattle.demands.proofs.Exact.{line-told, standing-told, says-blind}
+use Rattle.demands.proofs.Exact.{exact-kept, line-told, standing-told, says-blind}
 use Rattle.demands.proofs.Walks.{walk-over}
 use Rattle.demands.proofs.Listing.{ShownAs}
 use Rattle.demands.proofs.Uses.{through-append}
@@ -59,6 +61,31 @@ module _ (p : Property) (good : property-refusal (meant p) ≡ 0) where
       let k : a .verdict ≤ verdict-number w =
       closed-not-above q good calls logged behind e premises is-open g a (answer-agrees R (grown-agrees R calls) (Call.mark g)) w h in
       omega (arith, k, ap (λ x. x .verdict) (running-answer p good calls (Call.mark g)))
+
+  -- Nor is it above the exact one over the full history, lost lines counted, for the breaches of demand 3: those that begin with the run's
+  -- first line or one logged after it.
+  module _ (calls : List Call) (earlier : List Event) (g : Mark) (between : List Event) (quiet : Quiet q (highest 0 (fed earlier ++ Call.mark g ∷ [])) (fed between)) where
+    pub closed-history : (first : Line) (later behind : List Event) → kept q fresh calls ≡ fed ((earlier ++ Event.mark g ∷ between) ++ Event.line first ∷ later)
+        → Premises ((earlier ++ Event.mark g ∷ between) ++ Event.line first ∷ later)
+        → Premises (((earlier ++ Event.mark g ∷ between) ++ Event.line first ∷ later) ++ behind)
+        → highest 0 (fed (earlier ++ Event.mark g ∷ between)) + 2 * q .UB < first .stamp
+        → NoMark (fed later)
+        → (h : Mark) (w : Verdict)
+        → VerdictFor (BreaksAfter q (all-lines (earlier ++ Event.mark g ∷ between))) q (all-lines (((earlier ++ Event.mark g ∷ between) ++ Event.line first ∷ later) ++ behind)) w
+        → stepped-of (running p good calls) (Call.mark h) .answer .verdict ≤ verdict-number w
+    closed-history first later behind e premises whole far no-mark h w hw =
+        let R = lengths-reading q good in
+        let before : List Event = earlier ++ Event.mark g ∷ between in
+        let history : List Event = before ++ Event.line first ∷ later in
+        let joined = lines-append history behind in
+        let a = cuts-answer q (lengths q) (grown q calls) (Call.mark h) in
+        let k : a .verdict ≤ verdict-number w =
+        mark-at-most q (seen p good calls) h a (verdict-number w) (answer-agrees R (grown-agrees R calls) (Call.mark h))
+        (λ v stands.
+        never-falls-after q (R .bounds .least) (R .bounds .order) (all-lines before) (all-lines history) (all-lines behind) (subst (StampsFrom 0) joined (whole .never-fall)) v w
+        (exact-kept q good calls earlier g between quiet first later e premises far no-mark v stands)
+        (subst (λ (r : List Line). VerdictFor (BreaksAfter q (all-lines before)) q r w) joined hw)) in
+        omega (arith, k, ap (λ x. x .verdict) (running-answer p good calls (Call.mark h)))
 
   -- "A refused call in between changes nothing."
   pub refused-stays : (calls : List Call) (c : Call) (more : List Call) (n : ℕ) → stepped-of (running p good calls) c .answer .refusal ≡ suc n

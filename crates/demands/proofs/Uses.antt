@@ -1,6 +1,6 @@
 -- Lines, marks and walks in any mixture are single calls in a row.
 use mathlib.Core.Path.{_≡_, refl, sym, _∙_, ap}
-use mathlib.Core.List.{List, [], _∷_, _++_}
+use mathlib.Core.List.{List, [], _∷_, _++_, append-assoc, append-nil}
 use Rattle.meaning.specs.Numbers.{property-refusal}
 use Rattle.meaning.specs.Calls.{Call}
 use Rattle.property.specs.Meant.{meant}
@@ -24,10 +24,10 @@ module _ (p : Property) (good : property-refusal (meant p) ≡ 0) where
       let w = walk-over (running p good calls) bytes budget (running-range p good calls) in
       (calls-of (w .entries), w .session ∙ sym (through-append (fresh-of p .session) calls (calls-of (w .entries))))
 
-  pub uses-are-calls : (calls : List Call) (uses : List Use) → (all : List Call) × (session-through (running p good calls) uses ≡ running p good all)
+  pub uses-are-calls : (calls : List Call) (uses : List Use) → (more : List Call) × (session-through (running p good calls) uses ≡ running p good (calls ++ more))
   unfolding session-through
-  uses-are-calls calls [] = (calls, refl)
+  uses-are-calls calls [] = ([], ap (running p good) (sym (append-nil calls)))
   uses-are-calls calls (u ∷ uses) =
       let one = one-use calls u in
       let rest = uses-are-calls (calls ++ one .0) uses in
-      (rest .0, ap (λ (s : Session). session-through s uses) (one .1) ∙ rest .1)
+      (one .0 ++ rest .0, ap (λ (s : Session). session-through s uses) (one .1) ∙ rest .1 ∙ ap (running p good) (append-assoc calls (one .0) (rest .0)))
