@@ -63,7 +63,7 @@ module _ (p : Property) (good : property-refusal (meant p) ≡ 0) where
       omega (arith, k, ap (λ x. x .verdict) (running-answer p good calls (Call.mark g)))
 
   -- Nor is it above the exact one over the full history, lost lines counted, for the breaches of demand 3: those that begin with the run's
-  -- first line or one logged after it.
+  -- first line or one logged after it. The premises hold up to the run's last line, and with what was logged behind it.
   module _ (calls : List Call) (earlier : List Event) (g : Mark) (between : List Event) (quiet : Quiet q (highest 0 (fed earlier ++ Call.mark g ∷ [])) (fed between)) where
     pub closed-history : (first : Line) (later behind : List Event) → kept q fresh calls ≡ fed ((earlier ++ Event.mark g ∷ between) ++ Event.line first ∷ later)
         → Premises ((earlier ++ Event.mark g ∷ between) ++ Event.line first ∷ later)
