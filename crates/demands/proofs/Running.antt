@@ -2,7 +2,6 @@
 use mathlib.Core.Path.{_≡_, refl, sym, _∙_, ap, subst}
 use mathlib.Core.Bool.{false}
 use mathlib.Core.List.{List, [], _∷_, _++_}
-use Rattle.meaning.specs.Words
 use Rattle.meaning.specs.Node.{Breaks}
 use Rattle.meaning.specs.Numbers.{property-refusal}
 use Rattle.meaning.specs.Calls.{Call, Watch, fresh, watched, AllTaken, refusal, taken, next}
@@ -11,6 +10,7 @@ use Rattle.meaning.specs.Step.{Cuts, grown}
 use Rattle.meaning.proofs.Sets.{Reading}
 use Rattle.meaning.proofs.Lengths.{lengths-reading}
 use Rattle.meaning.proofs.Refusals.{unless-taken}
+use Rattle.meaning.proofs.Histories.{watched-last}
 use Rattle.meaning.proofs.Calls.{Agrees, open-run, blind, grown-agrees, refusal-agrees}
 use Rattle.property.specs.Meant.{meant}
 use Rattle.property.specs.declared.Property.{Property}
@@ -24,16 +24,11 @@ use Rattle.session_record.proofs.Grown.{grown-stands, grown-fit}
 use Rattle.session_record.proofs.Running.{running-record}
 use Rattle.demands.specs.Traces.{TakenOneByOne}
 
--- one more call behind others
-through-last : (s : Session) (ks : List Call) (k : Call) → stepped-through s (ks ++ k ∷ []) ≡ stepped-of (stepped-through s ks) k .session
+-- calls behind others
+pub through-append : (s : Session) (a b : List Call) → stepped-through s (a ++ b) ≡ stepped-through (stepped-through s a) b
 unfolding stepped-through
-through-last s [] k = refl
-through-last s (c ∷ ks) k = through-last (stepped-of s c .session) ks k
-
-watched-last : (q : Words.Property) (w : Watch) (ks : List Call) (k : Call) → watched q w (ks ++ k ∷ []) ≡ next q (watched q w ks) k
-unfolding watched
-watched-last q w [] k = refl
-watched-last q w (c ∷ ks) k = watched-last q (next q w c) ks k
+through-append s [] b = refl
+through-append s (c ∷ a) b = through-append (stepped-of s c .session) a b
 
 module _ (p : Property) (good : property-refusal (meant p) ≡ 0) where
   abbrev pub running : List Call → Session
@@ -71,7 +66,8 @@ module _ (p : Property) (good : property-refusal (meant p) ≡ 0) where
       ∙ refusal-agrees R (grown-agrees R calls) c
 
   pub running-next : (calls : List Call) (c : Call) → running (calls ++ c ∷ []) ≡ stepped-of (running calls) c .session
-  running-next calls c = through-last (fresh-of p .session) calls c
+  unfolding stepped-through
+  running-next calls c = through-append (fresh-of p .session) calls (c ∷ [])
 
   pub seen-next : (calls : List Call) (c : Call) → seen (calls ++ c ∷ []) ≡ next (meant p) (seen calls) c
   seen-next calls c = watched-last (meant p) fresh calls c

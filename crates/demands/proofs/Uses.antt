@@ -1,21 +1,16 @@
 -- Lines, marks and walks in any mixture are single calls in a row.
-use mathlib.Core.Path.{_≡_, refl, sym, _∙_, ap}
+use mathlib.Core.Path.{_≡_, sym, _∙_, ap}
 use mathlib.Core.List.{List, [], _∷_, _++_, append-assoc, append-nil}
 use Rattle.meaning.specs.Numbers.{property-refusal}
 use Rattle.meaning.specs.Calls.{Call}
 use Rattle.property.specs.Meant.{meant}
 use Rattle.property.specs.declared.Property.{Property}
 use Rattle.session_record.specs.declared.Session.{Session}
-use Rattle.session_record.specs.Step.{fresh-of, stepped-of, stepped-through}
+use Rattle.session_record.specs.Step.{fresh-of}
 use Rattle.demands.specs.Traces.{calls-of}
 use Rattle.demands.specs.Uses.{Use, session-after, session-through}
-use Rattle.demands.proofs.Running.{running, running-range, running-next}
+use Rattle.demands.proofs.Running.{through-append, running, running-range, running-next}
 use Rattle.demands.proofs.Walks.{walk-over}
-
-pub through-append : (s : Session) (a b : List Call) → stepped-through s (a ++ b) ≡ stepped-through (stepped-through s a) b
-unfolding stepped-through
-through-append s [] b = refl
-through-append s (c ∷ a) b = through-append (stepped-of s c .session) a b
 
 module _ (p : Property) (good : property-refusal (meant p) ≡ 0) where
   one-use : (calls : List Call) (u : Use) → (more : List Call) × (session-after (running p good calls) u ≡ running p good (calls ++ more))

@@ -125,6 +125,11 @@ module _ (p : Property) where
   out-in-asks′ (Action.output j) s (Action.output k) t i o h = absurd o
   out-in-asks′ (Action.input j) s y t i o h = absurd i
 
+  in-in-asks′ : (x : Action) (s : ℕ) (y : Action) (t : ℕ) → IsIn x → IsIn y → Stand p x s y t → s + p .LB ≤ t + p .UB
+  in-in-asks′ (Action.input j) s (Action.input k) t i o h = h
+  in-in-asks′ (Action.input j) s (Action.output k) t i o h = absurd o
+  in-in-asks′ (Action.output j) s y t i o h = absurd i
+
   pub in-in : Bounds p → (x y : Line) → In x → In y → x .stamp ≤ y .stamp → May p x y
   in-in b x y = in-in′ b (x .action) (x .stamp) (y .action) (y .stamp)
 
@@ -139,6 +144,9 @@ module _ (p : Property) where
 
   pub in-out-asks : (x y : Line) → In x → Out y → May p x y → x .stamp + 2 * p .LB ≤ y .stamp
   in-out-asks x y = in-out-asks′ (x .action) (x .stamp) (y .action) (y .stamp)
+
+  pub in-in-asks : (x y : Line) → In x → In y → May p x y → x .stamp + p .LB ≤ y .stamp + p .UB
+  in-in-asks x y = in-in-asks′ (x .action) (x .stamp) (y .action) (y .stamp)
 
   pub out-in-asks : (y x : Line) → Out y → In x → May p y x → y .stamp ≤ x .stamp + 2 * p .UB
   out-in-asks y x = out-in-asks′ (y .action) (y .stamp) (x .action) (x .stamp)

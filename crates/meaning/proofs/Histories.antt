@@ -22,11 +22,11 @@ use Rattle.meaning.proofs.Boundary.{whole-verdict}
 abbrev blind-watch : ℕ → Watch
 blind-watch t = record { is-blind = true; run = []; latest = t }
 
-abbrev open-watch : Run → ℕ → Watch
+abbrev pub open-watch : Run → ℕ → Watch
 open-watch run t = record { is-blind = false; run = run; latest = t }
 
 -- the lines among calls
-call-lines : List Call → List Line
+pub call-lines : List Call → List Line
 call-lines [] = []
 call-lines (Call.line l ∷ ks) = l ∷ call-lines ks
 call-lines (Call.mark g ∷ ks) = call-lines ks
@@ -45,6 +45,10 @@ module _ (p : Property) where
   unfolding watched
   watched-append w [] c = refl
   watched-append w (k ∷ a) c = watched-append (next p w k) a c
+
+  pub watched-last : (w : Watch) (a : List Call) (c : Call) → watched p w (a ++ c ∷ []) ≡ next p (watched p w a) c
+  unfolding watched
+  watched-last w a c = watched-append w a (c ∷ [])
 
   pub taken-append : (w : Watch) (a c : List Call) → AllTaken p w (a ++ c) → AllTaken p w a × AllTaken p (watched p w a) c
   unfolding watched AllTaken
@@ -120,7 +124,7 @@ module _ (p : Property) where
       marked = join-taken fresh before
 
   -- a run goes on to the next mark
-  runs-on : (run : Run) (t : ℕ) (ks : List Call) → AllTaken p (open-watch run t) ks → NoMark ks
+  pub runs-on : (run : Run) (t : ℕ) (ks : List Call) → AllTaken p (open-watch run t) ks → NoMark ks
       → (t′ : ℕ) × (watched p (open-watch run t) ks ≡ open-watch (run ++ call-lines ks) t′)
   unfolding watched AllTaken NoMark call-lines
   runs-on run t [] h n = (t, ap (λ (r : Run). open-watch r t) (sym (append-nil run)))

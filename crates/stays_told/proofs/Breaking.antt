@@ -1,6 +1,6 @@
 -- An order with one line more, behind which stand inputs only: a breach ends with an output, so what broke still breaks.
 use Prim.Native.Nat.{ℕ}
-use mathlib.Core.Path.{_≡_, sym, _∙_, ap, subst}
+use mathlib.Core.Path.{_≡_, refl, sym, _∙_, ap, subst}
 use mathlib.Core.Logic.{_⊎_, inl, inr}
 use mathlib.Core.List.{List, [], _∷_, _++_, map, map-append, append-assoc, head-eq-of-cons-eq, nil≢cons}
 use Rattle.meaning.specs.Words.{Action, Property, Line}
@@ -36,11 +36,7 @@ module _ (p : Property) (between : List ℕ) where
   occurs : {behind : List Action} (h : Breach p between behind) → behind ≡ before-answer ++ Action.output (h .answer) ∷ h .after
   occurs h = h .occurs ∙ sym (append-assoc (p .sequence) (map Action.input between) (Action.output (h .answer) ∷ h .after))
 
-  -- a breach ends with an output: none is in inputs alone,
-  breach-inputs : (w : List Line) → All In w → Breach p between (actions w) → ⊥
-  breach-inputs w hw h = no-output hw before-answer (h .answer) (h .after) (occurs h)
-
-  -- inputs behind it can be left out,
+  -- a breach ends with an output, so inputs behind it can be left out,
   breach-fewer : (m w : List Line) → All In w → Breach p between (actions (m ++ w)) → Breach p between (actions m)
   breach-fewer m w hw h =
       go (two-splits (actions m) (actions w) before-answer (Action.output (h .answer) ∷ h .after) (sym (map-append (λ (l : Line). l .action) m w) ∙ occurs h))
@@ -57,6 +53,29 @@ module _ (p : Property) (between : List ℕ) where
                 r .2 ∙ ap (λ (a : Action). before-answer ++ a ∷ r .1) (sym (head-eq-of-cons-eq (r .3)))
                 ∙ append-assoc (p .sequence) (map Action.input between) (Action.output (h .answer) ∷ r .1);
             outside = h .outside;
+          }
+
+  -- wherever it begins in an order that ends with them,
+  record Earlier (u before behind : List Line) : Type 0 where
+    first : Line
+    rest : List Line
+    stands : u ≡ before ++ first ∷ rest
+    same-first : (x : Line) (xs : List Line) → behind ≡ x ∷ xs → x ≡ first
+    breach : Breach p between (actions (first ∷ rest))
+
+  begins-earlier : (u w before behind : List Line) → All In w → u ++ w ≡ before ++ behind → Breach p between (actions behind) → Earlier u before behind
+  begins-earlier u w before behind hw e h = go (two-splits u w before behind e)
+    where
+      go : ((m : List Line) × (before ≡ u ++ m) × (w ≡ m ++ behind)) ⊎ ((y : Line) × (m : List Line) × (u ≡ before ++ y ∷ m) × (behind ≡ y ∷ (m ++ w)))
+          → Earlier u before behind
+      go (inl r) = absurd (no-output (all-right (r .0) behind (subst (All In) (r .2) hw)) before-answer (h .answer) (h .after) (occurs h))
+      go (inr r) =
+          record {
+            first = r .0;
+            rest = r .1;
+            stands = r .2;
+            same-first = λ x xs q. head-eq-of-cons-eq (sym q ∙ r .3);
+            breach = breach-fewer (r .0 ∷ r .1) w hw (subst (λ (z : List Line). Breach p between (actions z)) (r .3) h);
           }
 
   -- and anything may stand behind it.
@@ -87,7 +106,9 @@ module _ (p : Property) where
   pub breaks-ends : Ends (Breaks p)
   breaks-ends =
       record {
-        fewer = λ u w hw h. pick u w hw h (two-splits u w (h .before) (h .behind) (h .stands));
+        fewer = λ u w hw h.
+            let r = begins-earlier p (h .between) u w (h .before) (h .behind) hw (h .stands) (h .breach) in
+            record { before = h .before; behind = r .first ∷ r .rest; stands = r .stands; between = h .between; breach = r .breach };
         more = λ u v h. record {
           before = h .before;
           behind = h .behind ++ v;
@@ -96,25 +117,22 @@ module _ (p : Property) where
           breach = breach-more p (h .between) (h .behind) v (h .breach);
         };
       }
-    where
-      pick : (u w : List Line) → All In w → (h : Breaks p (u ++ w))
-          → ((m : List Line) × (h .before ≡ u ++ m) × (w ≡ m ++ h .behind)) ⊎ ((y : Line) × (m : List Line) × (u ≡ h .before ++ y ∷ m) × (h .behind ≡ y ∷ (m ++ w)))
-          → Breaks p u
-      pick u w hw h (inl r) = absurd (breach-inputs p (h .between) (h .behind) (all-right (r .0) (h .behind) (subst (All In) (r .2) hw)) (h .breach))
-      pick u w hw h (inr r) =
-          record {
-            before = h .before;
-            behind = r .0 ∷ r .1;
-            stands = r .2;
-            between = h .between;
-            breach = breach-fewer p (h .between) (r .0 ∷ r .1) w hw (subst (λ (z : List Line). Breach p (h .between) (actions z)) (r .3) (h .breach));
-          }
 
   -- those that begin with a line logged after `earlier`
   pub after-ends : (earlier : List Line) → Ends (BreaksAfter p earlier)
   after-ends earlier =
       record {
-        fewer = λ u w hw h. pick u w hw h (two-splits u w (h .before) (h .first ∷ h .behind) (h .stands));
+        fewer = λ u w hw h.
+            let r = begins-earlier p (h .between) u w (h .before) (h .first ∷ h .behind) hw (h .stands) (h .breach) in
+            record {
+              before = h .before;
+              first = r .first;
+              behind = r .rest;
+              stands = r .stands;
+              begins = subst (λ (z : Line). LoggedAfter earlier (h .before) (z .action)) (r .same-first (h .first) (h .behind) refl) (h .begins);
+              between = h .between;
+              breach = r .breach;
+            };
         more = λ u v h. record {
           before = h .before;
           first = h .first;
@@ -125,20 +143,3 @@ module _ (p : Property) where
           breach = breach-more p (h .between) (h .first ∷ h .behind) v (h .breach);
         };
       }
-    where
-      pick : (u w : List Line) → All In w → (h : BreaksAfter p earlier (u ++ w))
-          → ((m : List Line) × (h .before ≡ u ++ m) × (w ≡ m ++ h .first ∷ h .behind))
-          ⊎ ((y : Line) × (m : List Line) × (u ≡ h .before ++ y ∷ m) × (h .first ∷ h .behind ≡ y ∷ (m ++ w)))
-          → BreaksAfter p earlier u
-      pick u w hw h (inl r) =
-          absurd (breach-inputs p (h .between) (h .first ∷ h .behind) (all-right (r .0) (h .first ∷ h .behind) (subst (All In) (r .2) hw)) (h .breach))
-      pick u w hw h (inr r) =
-          record {
-            before = h .before;
-            first = r .0;
-            behind = r .1;
-            stands = r .2;
-            begins = subst (λ (z : Line). LoggedAfter earlier (h .before) (z .action)) (head-eq-of-cons-eq (r .3)) (h .begins);
-            between = h .between;
-            breach = breach-fewer p (h .between) (r .0 ∷ r .1) w hw (subst (λ (z : List Line). Breach p (h .between) (actions z)) (r .3) (h .breach));
-          }

@@ -3,13 +3,13 @@
 use Prim.Native.Nat.{ℕ, zero, suc, _≤_}
 use mathlib.Core.Path.{_≡_, refl, sym, _∙_, ap, subst}
 use mathlib.Core.Bool.{Bool, true, false, cond}
-use mathlib.Core.List.{List, [], _∷_, _++_, append-nil, append-assoc}
+use mathlib.Core.List.{List, [], _∷_, _++_, append-nil}
 use native.Mathlib.Omega.{arith}
 use native.Mathlib.Nat.{le-trans}
 use Rattle.meaning.specs.Words.{Property, Line, Run, StampsFrom}
 use Rattle.meaning.specs.Node.{Breaks, Verdict, verdict-number, IsVerdict}
 use Rattle.meaning.specs.Numbers.{property-refusal}
-use Rattle.meaning.specs.Calls.{Mark, Call, Watch, fresh, beyond, with-line, refusal, taken, unless-refused, next, watched, kept, Standing}
+use Rattle.meaning.specs.Calls.{Mark, Call, Watch, fresh, beyond, with-line, refusal, taken, unless-refused, next, watched, AllTaken, kept, Standing}
 use Rattle.meaning.specs.Calls.{Answer, AnswerBy, IsAnswer}
 use Rattle.meaning.specs.Matcher.{Lengths}
 use Rattle.meaning.specs.Step.{Front, Cuts, lengths, front-with, fresh-front, front-verdict, grown, cuts-verdict}
@@ -21,7 +21,7 @@ use Rattle.meaning.proofs.Sets.{Reading}
 use Rattle.meaning.proofs.Lengths.{lengths-reading}
 use Rattle.meaning.proofs.Exact.{Fits, fresh-fits, front-fits, front-verdict-exact}
 use Rattle.meaning.proofs.Calls.{Agrees, open-run, blind, grown-agrees, standing-agrees}
-use Rattle.meaning.proofs.Histories.{watched-append, kept-same, lines-append}
+use Rattle.meaning.proofs.Histories.{open-watch, call-lines, watched-append, watched-last, runs-on, kept-same, kept-taken, lines-append}
 use Rattle.stays_told.specs.Stays.{SameRun, ClosedNotAbove, StandingStays, AnswersStay}
 use Rattle.stays_told.proofs.NeverFalls.{never-falls}
 
@@ -67,46 +67,13 @@ module _ (p : Property) where
 
   -- ---- calls of one run
 
-  one-more : (calls : List Call) (c : Call) → watched p fresh (calls ++ c ∷ []) ≡ next p (watched p fresh calls) c
-  unfolding watched
-  one-more calls c = watched-append p fresh calls (c ∷ [])
-
-  opened : (w : Watch) (l : Line) → w .is-blind ≡ false → with-line p w l ≡ record { is-blind = false; run = w .run ++ l ∷ []; latest = l .stamp }
-  opened w l e =
-      ap
-      (λ (b : Bool).
-      cond {A = Watch} b
-      (cond (beyond p (w .latest) (l .stamp)) (record { is-blind = false; run = l ∷ []; latest = l .stamp }) (record { is-blind = true; run = []; latest = l .stamp }))
-      (record { is-blind = false; run = w .run ++ l ∷ []; latest = l .stamp }))
-      e
-
-  -- the run is still open, and has grown by some lines
-  record Grew (w : Watch) (more : List Call) : Type 0 where
-    lines : List Line
-    is-open : watched p w more .is-blind ≡ false
-    run-is : watched p w more .run ≡ w .run ++ lines
-
-  grew : (w : Watch) (more : List Call) → w .is-blind ≡ false → NoMark (kept p w more) → Grew w more
-  unfolding watched kept NoMark
-  grew w [] e n = record { lines = []; is-open = e; run-is = sym (append-nil (w .run)) }
-  grew w (c ∷ more) e n = by c (refusal p w c) refl (grew (next p w c) more) n
-    where
-      by : (k : Call) (m : ℕ) → refusal p w k ≡ m → (next p w k .is-blind ≡ false → NoMark (kept p (next p w k) more) → Grew (next p w k) more)
-          → NoMark (unless-refused m (k ∷ kept p (next p w k) more) (kept p (next p w k) more)) → Grew w (k ∷ more)
-      by (Call.line l) zero z on n =
-          let same : next p w (Call.line l) ≡ record { is-blind = false; run = w .run ++ l ∷ []; latest = l .stamp } =
-          unless-taken (refusal p w (Call.line l)) (with-line p w l) w z ∙ opened w l e in
-          let r = on (ap (λ (x : Watch). x .is-blind) same) n in
-          record {
-            lines = l ∷ r .lines;
-            is-open = r .is-open;
-            run-is = r .run-is ∙ ap (λ (x : Watch). x .run ++ r .lines) same ∙ append-assoc (w .run) (l ∷ []) (r .lines);
-          }
-      by (Call.mark g) zero z on n = absurd n
-      by k (suc m) z on n =
-          let same : next p w k ≡ w = ap (λ (i : ℕ). unless-refused i (taken p w k) w) z in
-          let r = on (ap (λ (x : Watch). x .is-blind) same ∙ e) n in
-          record { lines = r .lines; is-open = r .is-open; run-is = r .run-is ∙ ap (λ (x : Watch). x .run ++ r .lines) same }
+  -- the run goes on by the lines that are taken
+  grew : (w : Watch) (more : List Call) → SameRun p w more → (t : ℕ) × (watched p w more ≡ open-watch (w .run ++ call-lines (kept p w more)) t)
+  grew w more s =
+      let taken-calls : List Call = kept p w more in
+      let same : w ≡ open-watch (w .run) (w .latest) = λ i. record { is-blind = s .open-before i; run = w .run; latest = w .latest } in
+      let r = runs-on p (w .run) (w .latest) taken-calls (subst (λ (x : Watch). AllTaken p x taken-calls) same (kept-taken p w more)) (s .no-mark) in
+      (r .0, sym (kept-same p w more) ∙ ap (λ (x : Watch). watched p x taken-calls) same ∙ r .1)
 
   -- a line more, taken or refused, is of the same run
   pub with-line-more : (w : Watch) (l : Line) → w .is-blind ≡ false → SameRun p w (Call.line l ∷ [])
@@ -118,8 +85,7 @@ module _ (p : Property) where
       by (suc n) = tt
 
   pub still-open : (calls more : List Call) → SameRun p (watched p fresh calls) more → watched p fresh (calls ++ more) .is-blind ≡ false
-  still-open calls more s =
-      ap (λ (x : Watch). x .is-blind) (watched-append p fresh calls more) ∙ grew (watched p fresh calls) more (s .open-before) (s .no-mark) .is-open
+  still-open calls more s = ap (λ (x : Watch). x .is-blind) (watched-append p fresh calls more ∙ grew (watched p fresh calls) more s .1)
 
   on-open : (w : Watch) (v : Verdict) → w .is-blind ≡ false → Standing p w v → IsVerdict p (w .run) v
   on-open w v e h = subst (λ (b : Bool). cond b (v ≡ Verdict.blind) (IsVerdict p (w .run) v)) e h
@@ -171,10 +137,10 @@ module _ (p : Property) (good : property-refusal p ≡ 0) where
   pub standing-stays : StandingStays p
   standing-stays calls more s v w h k =
       let before : Watch = watched p fresh calls in
-      let e = watched-append p fresh calls more in
-      let g = grew p before more (s .open-before) (s .no-mark) in
-      let run-is : watched p fresh (calls ++ more) .run ≡ before .run ++ g .lines = ap (λ (x : Watch). x .run) e ∙ g .run-is in
-      never (before .run) (g .lines) (subst (StampsFrom 0) run-is (run-rises (grown-agrees R (calls ++ more)))) v w
+      let lines : List Line = call-lines (kept p before more) in
+      let run-is : watched p fresh (calls ++ more) .run ≡ before .run ++ lines =
+      ap (λ (x : Watch). x .run) (watched-append p fresh calls more ∙ grew p before more s .1) in
+      never (before .run) lines (subst (StampsFrom 0) run-is (run-rises (grown-agrees R (calls ++ more)))) v w
       (on-open p before v (s .open-before) h)
       (subst (λ (r : Run). IsVerdict p r w) run-is (on-open p (watched p fresh (calls ++ more)) w (still-open p calls more s) k))
 
@@ -203,7 +169,7 @@ module _ (p : Property) (good : property-refusal p ≡ 0) where
           let u : Verdict = cuts-verdict p (lengths p) (grown p (calls ++ Call.line l ∷ more)) in
           let su : Standing p later u = standing-agrees R (grown-agrees R (calls ++ Call.line l ∷ more)) in
           let after : watched p fresh ((calls ++ Call.line l ∷ more) ++ Call.line m ∷ []) ≡ with-line p later m =
-          one-more p (calls ++ Call.line l ∷ more) (Call.line m) ∙ unless-taken (refusal p later (Call.line m)) (with-line p later m) later z in
+          watched-last p fresh (calls ++ Call.line l ∷ more) (Call.line m) ∙ unless-taken (refusal p later (Call.line m)) (with-line p later m) later z in
           subst (λ (n : ℕ). verdict-number v ≤ n) (sym (told .told))
           (le-trans (up-to v u h su)
           (standing-stays (calls ++ Call.line l ∷ more) (Call.line m ∷ []) (with-line-more p later m later-open) u (told .verdict) su
@@ -213,7 +179,7 @@ module _ (p : Property) (good : property-refusal p ≡ 0) where
       by-first (suc n) z h = subst (λ (m : ℕ). m ≤ b .verdict) (sym (ap (λ (x : Answer). x .verdict) h)) (omega arith)
       by-first zero z h =
           let after : earlier ≡ with-line p (watched p fresh calls) l =
-          one-more p calls (Call.line l) ∙ unless-taken (refusal p (watched p fresh calls) (Call.line l)) (with-line p (watched p fresh calls) l) (watched p fresh calls) z in
+          watched-last p fresh calls (Call.line l) ∙ unless-taken (refusal p (watched p fresh calls) (Call.line l)) (with-line p (watched p fresh calls) l) (watched p fresh calls) z in
           subst (λ (m : ℕ). m ≤ b .verdict) (sym (h .told))
           (to-call c t (subst (λ (n : ℕ). AnswerBy n p later c b) t hb) (h .verdict) (subst (λ (x : Watch). Standing p x (h .verdict)) (sym after) (h .stands)))
 

@@ -1,15 +1,15 @@
 -- Where a new output may stand in an order: behind the last output and behind all inputs that have closed.
-use Prim.Native.Nat.{ℕ, _+_, _*_, _≤_, _<_}
+use Prim.Native.Nat.{_+_, _*_, _≤_, _<_}
 use mathlib.Core.Path.{_≡_, refl, ap}
 use mathlib.Core.Logic.{_⊎_, inl, inr}
 use mathlib.Core.Bool.{Bool, true, false, not}
 use mathlib.Core.List.{List, [], _∷_, _++_}
 use native.Mathlib.Omega.{arith}
 use lib.Dec.{T, leb, leb→le, nleb→lt}
-use Rattle.meaning.specs.Words.{Action, Property, Line}
+use Rattle.meaning.specs.Words.{Property, Line}
 use Rattle.meaning.proofs.Lists.{All, done, also, all-head, all-tail}
 use Rattle.meaning.proofs.Pairs.{Bounds, May, Pairs, none, first}
-use Rattle.meaning.proofs.Channels.{IsIn, IsOut, In, Out, in-or-out, out-out, in-out, out-in, in-out-asks}
+use Rattle.meaning.proofs.Channels.{IsIn, IsOut, In, Out, in-or-out, out-out, in-out, out-in, in-out-asks, in-in-asks}
 
 module _ {p : Property} (b : Bounds p) (y : Line) (o : Out y) where
   pub record Place (u : List Line) : Type 0 where
@@ -23,11 +23,6 @@ module _ {p : Property} (b : Bounds p) (y : Line) (o : Out y) where
   data Placed (u : List Line) : Type 0 where
     waits : All (λ z. In z × May p y z) u → Placed u
     placed : Place u → ((x : Line) → In x → All (May p x) u → May p x y) → Placed u
-
-  in-in-asks : (x : Action) (s : ℕ) (z : Action) (t : ℕ) → IsIn x → IsIn z → May p (record { action = x; stamp = s }) (record { action = z; stamp = t }) → s + p .LB ≤ t + p .UB
-  in-in-asks (Action.input j) s (Action.input k) t i h m = m
-  in-in-asks (Action.input j) s (Action.output k) t i h m = absurd h
-  in-in-asks (Action.output j) s z t i h m = absurd i
 
   more-placed : (z : Line) {u : List Line} → May p z y → Place u → Place (z ∷ u)
   more-placed z m q =
@@ -53,7 +48,7 @@ module _ {p : Property} (b : Bounds p) (y : Line) (o : Out y) where
       by-input h (waits k) true opens closed = waits (also (h, out-in p y z o h (opens tt)) k)
       by-input h (waits k) false opens closed =
           placed (first-placed z (in-out p z y h o (omega (arith, closed tt, b .order))) k)
-          (λ x i m. in-out p x y i o (omega (arith, closed tt, b .order, in-in-asks (x .action) (x .stamp) (z .action) (z .stamp) i h (all-head m))))
+          (λ x i m. in-out p x y i o (omega (arith, closed tt, b .order, in-in-asks p x z i h (all-head m))))
 
       pick : IsIn (z .action) ⊎ IsOut (z .action) → Placed u → Placed (z ∷ u)
       pick (inl h) q = by-input h q (leb (y .stamp) (z .stamp + 2 * p .UB)) (leb→le _ _) (nleb→lt _ _)
