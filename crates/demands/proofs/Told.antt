@@ -10,7 +10,7 @@ use Rattle.meaning.specs.Words.{Line, StampsFrom}
 use Rattle.meaning.specs.Words
 use Rattle.meaning.specs.Node.{Verdict, verdict-number, VerdictFor, IsVerdict}
 use Rattle.meaning.specs.Numbers.{property-refusal}
-use Rattle.meaning.specs.Calls.{Mark, Call, fresh, watched, kept, Standing}
+use Rattle.meaning.specs.Calls.{Mark, Call, fresh, watched, kept, Standing, open-of}
 use Rattle.meaning.specs.Step.{lengths, grown, cuts-answer}
 use Rattle.meaning.specs.History.{Event, fed, all-lines, Premises, highest, Quiet, NoMark, BreaksAfter}
 use Rattle.meaning.proofs.Lengths.{lengths-reading}
@@ -21,18 +21,20 @@ use Rattle.stays_told.proofs.NeverFalls.{never-falls-after}
 use Rattle.stays_told.proofs.Calls.{standing-stays, answers-stay, closed-not-above, mark-at-most, still-open, with-line-more}
 use Rattle.property.specs.Meant.{meant}
 use Rattle.property.specs.declared.Property.{Property}
-use Rattle.record_form.specs.Trace.{Entry, entry-call}
+use Rattle.record_form.specs.Trace.{Entry, kind-of, action-of, stamp-of, entry-call}
 use Rattle.session_record.specs.declared.Session.{Session}
 use Rattle.session_record.specs.Step.{standing, fresh-of, stepped-of, stepped-through}
 use Rattle.session_record.proofs.Steps.{step-refused, answer-refusal}
 use Rattle.session_record.proofs.Running.{running-answer}
+use Rattle.printout.specs.Text.{line-text}
+use Rattle.printed.specs.Printed.{one-after}
+use Rattle.demands.specs.Traces.{calls-of, TakenOneByOne}
 use Rattle.demands.specs.Listing.{Shows}
-use Rattle.demands.specs.Told.{Row, unless-gap, NotBelow, StayTold, walk-rows, shown-rows}
-use Rattle.demands.proofs.Running.{running, seen, running-number, running-next, running-range}
+use Rattle.demands.specs.Told.{Row, unless-gap, NotBelow, StayTold, told-by, walk-rows, rows-text, ShownRows}
+use Rattle.demands.proofs.Running.{through-append, running, seen, running-number, running-next, running-range, seen-taken}
 use Rattle.demands.proofs.Exact.{exact-kept, line-told, standing-told, says-blind}
 use Rattle.demands.proofs.Walks.{walk-over}
 use Rattle.demands.proofs.Listing.{ShownAs}
-use Rattle.demands.proofs.Uses.{through-append}
 
 module _ (p : Property) (good : property-refusal (meant p) ≡ 0) where
   abbrev q : Words.Property
@@ -164,30 +166,56 @@ module _ (p : Property) (good : property-refusal (meant p) ≡ 0) where
   rows-from : (calls : List Call) (rows : List Row) → Stands calls rows → StayTold (standing (running p good calls)) rows
   rows-from calls rows st = let v = standing-told p good calls in rows-stay calls (standing (running p good calls)) (v .0) (v .1) (v .2) rows st
 
-  walk-stands : (calls : List Call) (entries : List Entry) → Stands calls (walk-rows (running p good calls) entries)
+  -- what a record tells is the verdict standing after it
+  told-stands : (calls : List Call) (e : Entry) → stepped-of (running p good calls) (entry-call e) .answer .refusal ≡ 0
+      → told-by (running p good calls) e ≡ standing (stepped-of (running p good calls) (entry-call e) .session)
+  told-stands calls (Entry.input k t) z = line-stands calls _ z
+  told-stands calls (Entry.output k t) z = line-stands calls _ z
+  told-stands calls (Entry.gap t) z =
+      let c : Call = entry-call (Entry.gap t) in
+      let v = standing-told p good (calls ++ c ∷ []) in
+      let blind : seen p good (calls ++ c ∷ []) .is-blind ≡ true = ap (λ x. x .is-blind) (seen-taken p good calls c (sym (running-number p good calls c) ∙ z)) in
+      sym (says-blind p good (seen p good (calls ++ c ∷ [])) (v .0) blind (v .1)) ∙ sym (v .2) ∙ ap standing (running-next p good calls c)
+
+  walk-stands : (calls : List Call) (entries : List Entry) → TakenOneByOne (running p good calls) (calls-of entries) → Stands calls (walk-rows (running p good calls) entries)
   unfolding walk-rows
-  walk-stands calls [] = tt
-  walk-stands calls (e ∷ entries) =
+  walk-stands calls [] each = tt
+  walk-stands calls (e ∷ entries) each =
       let v = standing-told p good (calls ++ entry-call e ∷ []) in
       let same : running p good (calls ++ entry-call e ∷ []) ≡ stepped-of (running p good calls) (entry-call e) .session = running-next p good calls (entry-call e) in (
         v .0,
         v .1,
-        ap standing (sym same) ∙ v .2,
-        subst (λ (s : Session). Stands (calls ++ entry-call e ∷ []) (walk-rows s entries)) same (walk-stands (calls ++ entry-call e ∷ []) entries),
+        told-stands calls e (each .0) ∙ ap standing (sym same) ∙ v .2,
+        subst (λ (s : Session). Stands (calls ++ entry-call e ∷ []) (walk-rows s entries)) same
+            (walk-stands (calls ++ entry-call e ∷ []) entries (subst (λ (s : Session). TakenOneByOne s (calls-of entries)) (sym same) (each .1))),
       )
 
-  -- The verdicts that a walk's records leave, one after the other, do not fall within a run, from the one that stood before it;
+  -- What a walk's records tell, one after the other, does not fall within a run, from the verdict that stood before it;
   pub walk-stays : (calls : List Call) (bytes : List ℕ) (budget : ℕ)
       → StayTold (standing (running p good calls)) (walk-rows (running p good calls) (walk-over (running p good calls) bytes budget (running-range p good calls) .entries))
-  walk-stays calls bytes budget = rows-from calls _ (walk-stands calls _)
+  walk-stays calls bytes budget = rows-from calls _ (walk-stands calls _ (walk-over (running p good calls) bytes budget (running-range p good calls) .each))
 
-  shown-stands : (before : List Call) (number : ℕ) (entries : List Entry) (text : List ℕ) (h : Shows q before number entries text)
-      → Stands before (shown-rows q before number entries text h)
-  unfolding shown-rows
-  shown-stands before number [] text h = tt
-  shown-stands before number (e ∷ entries) text h = (h .0, h .2, refl, shown-stands (before ++ entry-call e ∷ []) _ entries (h .1) (h .4))
+  shown-rows : (before : List Call) (number : ℕ) (entries : List Entry) (lines : List ℕ) → Shows q before number entries lines
+      → ShownRows q before number entries lines (Stands before)
+  unfolding rows-text
+  shown-rows before number [] lines h = record { rows = []; one-each = refl; shown = h; holds = tt }
+  shown-rows before number (e ∷ entries) lines h =
+      let r = shown-rows (before ++ entry-call e ∷ []) (one-after number) entries (h .1) (h .4) in
+      record {
+        rows = record { entry = e; verdict = verdict-number (h .0) } ∷ r .rows;
+        one-each = ap (λ (es : List Entry). e ∷ es) (r .one-each);
+        shown =
+            h .3
+            ∙ ap
+            (λ (t : List ℕ).
+            line-text (one-after number) (kind-of e) (action-of e) (stamp-of e) (verdict-number (h .0)) (open-of q (watched q fresh (before ++ entry-call e ∷ []))) ++ t)
+            (r .shown);
+        holds = (h .0, h .2, refl, r .holds);
+      }
 
-  -- nor do those that a listing shows.
+  -- nor does what a listing shows.
   pub listing-stays : {before : List Call} {number : ℕ} {bytes text : List ℕ} (r : ShownAs p good before number bytes text)
-      → StayTold (standing (running p good before)) (shown-rows q before number (r .entries) (r .lines) (r .shows))
-  listing-stays {before} {number} r = rows-from before _ (shown-stands before number (r .entries) (r .lines) (r .shows))
+      → ShownRows q before number (r .entries) (r .lines) (StayTold (standing (running p good before)))
+  listing-stays {before} {number} r =
+      let s = shown-rows before number (r .entries) (r .lines) (r .shows) in
+      record { rows = s .rows; one-each = s .one-each; shown = s .shown; holds = rows-from before (s .rows) (s .holds) }

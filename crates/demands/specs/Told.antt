@@ -1,14 +1,14 @@
 -- The verdicts that the records of a walk and the rows of a listing give, one after the other (document 02, CR 3).
 use Prim.Native.Nat.{ℕ, _≤_, _<_}
-use mathlib.Core.List.{List, [], _∷_, _++_}
+use mathlib.Core.Path.{_≡_}
+use mathlib.Core.List.{List, [], _∷_, _++_, map}
 use Rattle.meaning.specs.Words.{Property}
-use Rattle.meaning.specs.Node.{verdict-number}
-use Rattle.meaning.specs.Calls.{Call}
-use Rattle.record_form.specs.Trace.{Entry, entry-call}
+use Rattle.meaning.specs.Calls.{Call, fresh, watched, open-of}
+use Rattle.record_form.specs.Trace.{Entry, kind-of, action-of, stamp-of, entry-call}
 use Rattle.session_record.specs.declared.Session.{Session}
-use Rattle.session_record.specs.Step.{standing, stepped-of}
+use Rattle.session_record.specs.Step.{stepped-of}
+use Rattle.printout.specs.Text.{line-text}
 use Rattle.printed.specs.Printed.{one-after}
-use Rattle.demands.specs.Listing.{Shows}
 
 -- A record, and the number of the verdict after it.
 pub record Row : Type 0 where
@@ -30,14 +30,28 @@ unfoldable pub StayTold : ℕ → List Row → Type 0
 StayTold n [] = Unit {0}
 StayTold n (r ∷ rows) = (n < 3 → NotBelow n (r ∷ rows)) × StayTold (r .verdict) rows
 
--- The records that a walk takes, with the verdict that stands on the session after each.
+-- What the call of a record tells: the verdict answered to a line; behind a gap the session is blind.
+abbrev pub told-by : Session → Entry → ℕ
+told-by s (Entry.input k t) = stepped-of s (entry-call (Entry.input k t)) .answer .verdict
+told-by s (Entry.output k t) = stepped-of s (entry-call (Entry.output k t)) .answer .verdict
+told-by s (Entry.gap t) = 3
+
+-- The records that a walk takes, with what each would tell as a single call.
 unfoldable pub walk-rows : Session → List Entry → List Row
 walk-rows s [] = []
-walk-rows s (e ∷ entries) =
-    record { entry = e; verdict = standing (stepped-of s (entry-call e) .session) } ∷ walk-rows (stepped-of s (entry-call e) .session) entries
+walk-rows s (e ∷ entries) = record { entry = e; verdict = told-by s e } ∷ walk-rows (stepped-of s (entry-call e) .session) entries
 
--- The rows of a listing, with the verdict that each shows.
-unfoldable pub shown-rows : (p : Property) (before : List Call) (number : ℕ) (entries : List Entry) (text : List ℕ) → Shows p before number entries text → List Row
-shown-rows p before number [] text h = []
-shown-rows p before number (e ∷ entries) text h =
-    record { entry = e; verdict = verdict-number (h .0) } ∷ shown-rows p (before ++ entry-call e ∷ []) (one-after number) entries (h .1) (h .4)
+-- The lines of a listing that show these rows, after calls on a fresh session and `number` lines.
+unfoldable pub rows-text : Property → List Call → ℕ → List Row → List ℕ
+rows-text p before number [] = []
+rows-text p before number (r ∷ rows) =
+    let e : Entry = r .entry in
+    let calls : List Call = before ++ entry-call e ∷ [] in
+    line-text (one-after number) (kind-of e) (action-of e) (stamp-of e) (r .verdict) (open-of p (watched p fresh calls)) ++ rows-text p calls (one-after number) rows
+
+-- Lines of a listing show rows, one for each of these records, of which a thing holds.
+pub record ShownRows (p : Property) (before : List Call) (number : ℕ) (entries : List Entry) (lines : List ℕ) (Holds : List Row → Type 0) : Type 0 where
+  pub rows : List Row
+  pub one-each : map (λ (r : Row). r .entry) rows ≡ entries
+  pub shown : lines ≡ rows-text p before number rows
+  pub holds : Holds rows
