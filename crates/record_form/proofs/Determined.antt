@@ -6,9 +6,10 @@ use denote.Ref.{RefT, ptr, now}
 use Rattle.record_form.specs.declared.RecordRead.{RecordRead}
 use Rattle.fields.specs.Rest.{Rest}
 use Rattle.fields.proofs.Determined.{rest-determined}
-use Rattle.record_form.specs.Record.{IsRead, IsWritten}
+use Rattle.record_form.specs.Record.{Reader, ReadBy, IsWritten}
 
-pub read-record-determined : {s : List ℕ} {before : ℕ} {r t : RecordRead} → IsRead s before r → IsRead s before t → r ≡ t
+-- whatever the reader
+pub read-record-determined : {reader : Reader} {s : List ℕ} {before : ℕ} {r t : RecordRead} → ReadBy reader s before r → ReadBy reader s before t → r ≡ t
 read-record-determined p q = p .answer ∙ sym (q .answer)
 
 -- Two rests are at one place and hold the same bytes.

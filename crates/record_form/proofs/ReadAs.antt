@@ -10,18 +10,18 @@ use borrow.Author.Tests.{ltb-true, ltb-false, eqb-true, not-false}
 use Rattle.fields.specs.Fields.{field}
 use Rattle.record_form.specs.declared.RecordRead.{RecordRead}
 use Rattle.record_form.specs.Record
-use Rattle.record_form.specs.Record.{IsRead, RecordAnswer, case-by, case-of, numbers, read-refusal, record-answer, record-size, refused, taken}
+use Rattle.record_form.specs.Record.{Reader, ReadBy, IsRead, RecordAnswer, case-by, case-of, numbers, read-refusal, record-answer, record-size, refused, taken}
 use Rattle.record_form.specs.Trace.{Entry, entry-call, kind-of, action-of, stamp-of}
 use Rattle.record_form.specs.ReadAs.{ReadAs, case-as, read-as}
 use Rattle.record_form.proofs.Reading.{is-taken, read-fields, read-short, refusal-of, short, taken-answer, unbroken}
 
--- What the reader answered is what the record stands for; with the answer's case put in, each by `refl`.
-pub read-case : {s : List ℕ} {before : ℕ} {r : RecordRead} → IsRead s before r → read-as (record-answer s before) ≡ case-as r
+-- What a reader answered is what the record stands for; with the answer's case put in, each by `refl`.
+pub read-case : {reader : Reader} {s : List ℕ} {before : ℕ} {r : RecordRead} → ReadBy reader s before r → read-as (reader s before) ≡ case-as r
 unfolding read-as
 read-case h = ap case-as (sym (h .answer))
 
 -- the same where an arm of a `match` knows the case
-pub read-known : {s : List ℕ} {before : ℕ} {r x : RecordRead} → IsRead s before r → r ≡ x → read-as (record-answer s before) ≡ case-as x
+pub read-known : {reader : Reader} {s : List ℕ} {before : ℕ} {r x : RecordRead} → ReadBy reader s before r → r ≡ x → read-as (reader s before) ≡ case-as x
 read-known h e = read-case h ∙ ap case-as e
 
 -- A record that is taken has all its bytes.

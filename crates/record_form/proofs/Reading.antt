@@ -28,6 +28,12 @@ abbrev pub fields-numbers : ℕ → ℕ → ℕ → ℕ → RecordAnswer
 fields-numbers kind action less before =
     answered (fields-refusal kind action less before) (taken kind action (before + less))
 
+-- the number of an answer is the one that it was given
+pub answered-number : (n : ℕ) (a : RecordAnswer) → a .refusal ≡ 0 → answered n a .refusal ≡ n
+unfolding answered
+answered-number zero a e = e
+answered-number (suc n) a e = refl
+
 is-zero : (n : ℕ) → not (eqb n 0) ≡ false → n ≡ 0
 is-zero n e = eqb-true n 0 (not-false _ e)
 
@@ -86,12 +92,8 @@ module _ (s : List ℕ) (before : ℕ) where
   long h = simp (le-ltb _ _ h)
 
   pub refusal-of : record-answer s before .refusal ≡ read-refusal s before
-  unfolding record-answer answered
-  refusal-of = go (read-refusal s before)
-    where
-      go : (n : ℕ) → answered n (taken (field s 0 2) (field s 2 6) (before + field s 8 40)) .refusal ≡ n
-      go zero = refl
-      go (suc n) = refl
+  unfolding record-answer
+  refusal-of = answered-number (read-refusal s before) (taken (field s 0 2) (field s 2 6) (before + field s 8 40)) refl
 
   -- What holds of bytes that are taken.
   pub record Readable : Type 0 where

@@ -3,47 +3,21 @@
 use Prim.Native.Nat.{ℕ, _+_, _-_, _^_, _<_, _≤_}
 use mathlib.Core.Bool.{Bool, true, false}
 use mathlib.Core.Path.{_≡_, refl, sym, _∙_, ap, ap₂, subst}
-use mathlib.Core.List.{List, [], _++_, append-assoc, append-nil}
+use mathlib.Core.List.{List, _++_}
 use native.Mathlib.Omega.{arith}
 use lib.ListN.{length, take, drop, length-append}
 use lib.Seq.{drop-at}
 use denote.Ref.{RefT, ptr, now}
-use lib.Dec.{eqb}
+use lib.Dec.{eqb, lit≤}
 use borrow.Author.Tests.{le-ltb, eq-eqb, ne-eqb, eqb-true, eqb-false, not-false}
-use Rattle.fields.specs.Fields.{field, bit, bits, form, size, at, Bits}
-use Rattle.fields.proofs.Laws.{length-bits, run-add, bits-number, bit-lt}
-use Rattle.fields.proofs.Packed.{field-form, form-run}
+use Rattle.fields.specs.Fields.{field}
 use Rattle.record_form.specs.declared.RecordRead.{RecordRead}
 use Rattle.fields.specs.Rest.{Rest}
 use Rattle.record_form.specs.Record.{RecordAnswer, taken, fields-refusal, read-refusal, record-answer, numbers, IsRead, bytes-read, write-refusal, Bytes, record-form, written, IsWritten}
 use Rattle.record_form.proofs.Rules.{within}
 use Rattle.record_form.proofs.Reading.{Readable, unbroken, is-taken, taken-answer, refusal-of, field-lt, size-taken}
-use Rattle.record_form.proofs.Writing.{record-bits, length-record-form, Bits-record, Writable, is-writable, written-form}
-
--- ---- out: the fields of a form, whatever follows it
-module _ (kind action less : ℕ) (rest : List ℕ) where
-  form-kind : kind < 4 → field (record-form kind action less ++ rest) 0 2 ≡ kind
-  unfolding record-form
-  form-kind h =
-      rw (append-assoc (bits 2 kind) (bits 6 action) (bits 40 less))
-      (field-form [] 2 kind (bits 6 action ++ bits 40 less) rest
-      (rw (← append-assoc (bits 2 kind) (bits 6 action) (bits 40 less)) (Bits-record kind action less)) h)
-
-  form-action : action < 64 → field (record-form kind action less ++ rest) 2 6 ≡ action
-  unfolding record-form
-  form-action h =
-      subst (λ (i : ℕ). field (record-form kind action less ++ rest) i 6 ≡ action) (length-bits 2 kind)
-      (field-form (bits 2 kind) 6 action (bits 40 less) rest (Bits-record kind action less) h)
-
-  form-less : less < 2 ^ 40 → field (record-form kind action less ++ rest) 8 40 ≡ less
-  unfolding record-form
-  form-less h =
-      let r = record-bits kind action less in
-      let eight : length (bits 2 kind ++ bits 6 action) ≡ 8 = simp (length-append, length-bits) in
-      subst (λ (l : List ℕ). field (form l ++ rest) 8 40 ≡ less) (append-nil r)
-      (subst (λ (i : ℕ). field (form (r ++ []) ++ rest) i 40 ≡ less) eight
-      (field-form (bits 2 kind ++ bits 6 action) 40 less [] rest
-      (subst (λ (l : List ℕ). Bits (at l)) (sym (append-nil r)) (Bits-record kind action less)) h))
+use Rattle.record_form.proofs.Parts.{form-kind, form-action, form-third, three-form}
+use Rattle.record_form.proofs.Writing.{length-record-form, Writable, is-writable, written-form}
 
 -- ---- the two ways to say that the stamp field is not 0
 other-stamp : (stamp before : ℕ) → before ≤ stamp → eqb (stamp - before) 0 ≡ eqb stamp before
@@ -75,13 +49,16 @@ module _ (kind action stamp before room : ℕ) (w : Writable kind action stamp b
   form-and-rest = record-form kind action (stamp - before) ++ rest
 
   kind-back : field form-and-rest 0 2 ≡ kind
-  kind-back = form-kind kind action (stamp - before) rest (bounds .0)
+  unfolding record-form
+  kind-back = form-kind 40 kind action (stamp - before) rest (bounds .0)
 
   action-back : field form-and-rest 2 6 ≡ action
-  action-back = form-action kind action (stamp - before) rest (bounds .1)
+  unfolding record-form
+  action-back = form-action 40 kind action (stamp - before) rest (bounds .1)
 
   less-back : field form-and-rest 8 40 ≡ stamp - before
-  less-back = form-less kind action (stamp - before) rest (bounds .2)
+  unfolding record-form
+  less-back = form-third 40 kind action (stamp - before) rest (bounds .2)
 
   form-taken : Readable form-and-rest before
   form-taken =
@@ -105,13 +82,7 @@ in-room w h =
 -- "Fields are whole bits": six bytes are the form of their three fields.
 fields-form : (s : List ℕ) → Bytes s → 6 ≤ length s → record-form (field s 0 2) (field s 2 6) (field s 8 40) ≡ take 6 s
 unfolding record-form
-fields-form s b h =
-    ap₂ (λ (x y : List ℕ). form (x ++ y))
-    (ap₂ (λ (x y : List ℕ). x ++ y) (bits-number (bit s) (bit-lt s) 0 2) (bits-number (bit s) (bit-lt s) 2 6)
-    ∙ sym (run-add (bit s) 0 2 6))
-    (bits-number (bit s) (bit-lt s) 8 40)
-    ∙ ap form (sym (run-add (bit s) 0 8 40))
-    ∙ form-run s 48 h b (λ i p q. let z : ⊥ = omega arith in absurd z)
+fields-form s b h = three-form 40 s b h (lit≤ tt)
 
 module _ (s : List ℕ) (before kind action stamp : ℕ) (e : record-answer s before ≡ taken kind action stamp) where
   unrefused : read-refusal s before ≡ 0

@@ -9,12 +9,12 @@ use lib.ListN.{drop, take-append-drop}
 use lib.Dec.{lit≤}
 use lib.Seq.{drop-at, getD-drop}
 use Rattle.record_form.specs.Record
-use Rattle.record_form.specs.Record.{RecordAnswer, taken, record-answer, Bytes, record-form}
-use Rattle.record_form.specs.Trace.{Entry, kind-of, action-of, stamp-of, trace-form, CanBeWritten, TakenAs}
+use Rattle.record_form.specs.Record.{Reader, RecordAnswer, taken, record-answer, Bytes, record-form}
+use Rattle.record_form.specs.Trace.{Entry, kind-of, action-of, stamp-of, trace-form, CanBeWritten, TakenBy, TakenAs}
 use Rattle.record_form.proofs.Writing.{length-record-form, is-writable}
 use Rattle.record_form.proofs.RoundTrip.{form-is-read, read-is-writable, read-is-form, write-none, in-room}
 
-Bytes-drop : (n : ℕ) (s : List ℕ) → Bytes s → Bytes (drop n s)
+pub Bytes-drop : (n : ℕ) (s : List ℕ) → Bytes s → Bytes (drop n s)
 Bytes-drop n s b i = subst (λ (x : ℕ). x < 256) (sym (getD-drop n s i 0)) (b (n + i))
 
 -- Whatever is taken as a trace is exactly what is written for it.
@@ -58,7 +58,7 @@ pub trace-one-packing : (s t : List ℕ) (before : ℕ) (trace : List Entry) →
 trace-one-packing s t before trace bs bt hs ht =
     trace-writes-back s before trace bs hs .0 ∙ sym (trace-writes-back t before trace bt ht .0)
 
--- And bytes are taken as one trace at most.
+-- And bytes are taken as one trace at most, by whatever reader.
 same-entry : (e f : Entry) → taken (kind-of e) (action-of e) (stamp-of e) ≡ taken (kind-of f) (action-of f) (stamp-of f) → e ≡ f
 same-entry (Entry.input a t) (Entry.input b u) h = ap₂ Entry.input (ap (λ (x : RecordAnswer). x .action) h) (ap (λ (x : RecordAnswer). x .stamp) h)
 same-entry (Entry.input a t) (Entry.output b u) h = let z : ⊥ = omega (arith, ap (λ (x : RecordAnswer). x .kind) h) in absurd z
@@ -75,11 +75,13 @@ not-end (Entry.input a t) action stamp h = omega (arith, ap (λ (x : RecordAnswe
 not-end (Entry.output a t) action stamp h = omega (arith, ap (λ (x : RecordAnswer). x .kind) h)
 not-end (Entry.gap t) action stamp h = omega (arith, ap (λ (x : RecordAnswer). x .kind) h)
 
-pub taken-as-one : (s : List ℕ) (before : ℕ) (trace other : List Entry) → TakenAs s before trace → TakenAs s before other → trace ≡ other
-taken-as-one s before [] [] h k = refl
-taken-as-one s before [] (f ∷ other) h k = absurd (not-end f 0 before (sym (k .0) ∙ h .0))
-taken-as-one s before (e ∷ trace) [] h k = absurd (not-end e 0 before (sym (h .0) ∙ k .0))
-taken-as-one s before (e ∷ trace) (f ∷ other) h k =
+pub taken-as-one : (size : ℕ) (reader : Reader) (s : List ℕ) (before : ℕ) (trace other : List Entry) → TakenBy size reader s before trace → TakenBy size reader s before other
+    → trace ≡ other
+taken-as-one size reader s before [] [] h k = refl
+taken-as-one size reader s before [] (f ∷ other) h k = absurd (not-end f 0 before (sym (k .0) ∙ h .0))
+taken-as-one size reader s before (e ∷ trace) [] h k = absurd (not-end e 0 before (sym (h .0) ∙ k .0))
+taken-as-one size reader s before (e ∷ trace) (f ∷ other) h k =
     let same : e ≡ f = same-entry e f (sym (h .0) ∙ k .0) in
     ap₂ (λ (x : Entry) (l : List Entry). x ∷ l) same
-    (taken-as-one (drop 6 s) (stamp-of e) trace other (h .1) (subst (λ (x : Entry). TakenAs (drop 6 s) (stamp-of x) other) (sym same) (k .1)))
+    (taken-as-one size reader (drop size s) (stamp-of e) trace other (h .1)
+    (subst (λ (x : Entry). TakenBy size reader (drop size s) (stamp-of x) other) (sym same) (k .1)))

@@ -11,26 +11,24 @@ use Rattle.meaning.specs.Limits.{last-action}
 use Rattle.meaning.proofs.Refusals.{given-none, none-first, unless-taken, unless-kept}
 use Rattle.fields.specs.Fields.{bits, at, packed, size, form, Bits}
 use Rattle.fields.proofs.Laws.{length-bits}
-use Rattle.fields.proofs.Packed.{paste-behind, Bits-append, Bits-bits, length-form}
+use Rattle.fields.proofs.Packed.{paste-behind}
 use Rattle.record_form.specs.Record.{broken, stamp-above, write-refusal, record-form, written}
+use Rattle.record_form.proofs.Parts.{three-bits, length-three, length-form-three, Bits-three}
 
 -- "two bits of kind ..; 6 bits action; 40 bits of stamp"
 abbrev pub record-bits : ℕ → ℕ → ℕ → List ℕ
-record-bits kind action less = bits 2 kind ++ bits 6 action ++ bits 40 less
+record-bits kind action less = three-bits 40 kind action less
 
 module _ (kind action less : ℕ) where
   pub length-record-bits : length (record-bits kind action less) ≡ 48
-  length-record-bits =
-      simp (length-append, length-bits)
+  length-record-bits = length-three 40 kind action less
 
   pub length-record-form : length (record-form kind action less) ≡ 6
   unfolding record-form
-  length-record-form = length-form (record-bits kind action less) ∙ ap size length-record-bits
+  length-record-form = length-form-three 40 kind action less
 
   pub Bits-record : Bits (at (record-bits kind action less))
-  Bits-record =
-      Bits-append (bits 2 kind ++ bits 6 action) (bits 40 less)
-      (Bits-append (bits 2 kind) (bits 6 action) (Bits-bits 2 kind) (Bits-bits 6 action)) (Bits-bits 40 less)
+  Bits-record = Bits-three 40 kind action less
 
   -- the three fields put one behind the other
   pub filled : (a b d : List ℕ) → a ≡ paste (replicate 48 0) 0 (bits 2 kind) 2 → b ≡ paste a 2 (bits 6 action) 6

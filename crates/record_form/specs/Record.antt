@@ -90,15 +90,23 @@ read-refusal s before =
     first-of (given 7 (ltb (length s) record-size))
     (fields-refusal (field s 0 2) (field s 2 6) (field s 8 40) before)
 
+-- What reads one record from the front of bytes, "given the stamp before".
+abbrev pub Reader : Type 0
+Reader = List ℕ → ℕ → RecordAnswer
+
 -- What the record reader, "given the stamp before", answers to the bytes s.
-unfoldable pub record-answer : List ℕ → ℕ → RecordAnswer
+unfoldable pub record-answer : Reader
 record-answer s before =
     answered (read-refusal s before) (taken (field s 0 2) (field s 2 6) (before + field s 8 40))
 
--- What `read_record` promises: its answer, and that answer in document 01's numbers.
-pub record IsRead (s : List ℕ) (before : ℕ) (r : RecordRead) : Type 0 where
-  pub answer : r ≡ case-of (record-answer s before)
-  pub in-numbers : numbers r ≡ record-answer s before
+-- What a call that reads a record promises: the reader's answer, and that answer in document 01's numbers.
+pub record ReadBy (reader : Reader) (s : List ℕ) (before : ℕ) (r : RecordRead) : Type 0 where
+  pub answer : r ≡ case-of (reader s before)
+  pub in-numbers : numbers r ≡ reader s before
+
+-- What `read_record` promises.
+abbrev pub IsRead : List ℕ → ℕ → RecordRead → Type 0
+IsRead s before r = ReadBy record-answer s before r
 
 -- The number of bytes that the reader takes: "A reader takes one form from the front"; refused, none.
 unfoldable pub bytes-read : List ℕ → ℕ → ℕ

@@ -6,7 +6,7 @@ use lib.ListN.{drop}
 use Rattle.meaning.specs.Words.{Action}
 use Rattle.meaning.specs.Calls.{Call, mark-at}
 use Rattle.record_form.specs.Record
-use Rattle.record_form.specs.Record.{taken, record-size, record-answer, write-refusal, record-form}
+use Rattle.record_form.specs.Record.{Reader, taken, record-size, record-answer, write-refusal, record-form}
 
 -- What a trace has before its end record: a line, which is an input or an output with its stamp, or a gap mark.
 pub data Entry : Type 0 where
@@ -46,8 +46,12 @@ CanBeWritten before [] = write-refusal Record.end 0 before before record-size �
 CanBeWritten before (e ∷ trace) =
     (write-refusal (kind-of e) (action-of e) (stamp-of e) before record-size ≡ 0) × CanBeWritten (stamp-of e) trace
 
--- The bytes s are taken as the trace: read record by record up to the end record, with no byte behind it.
+-- The bytes s are taken as the trace by a reader of records of this size: read record by record up to the end record, with no
+-- byte behind it.
+abbrev pub TakenBy : ℕ → Reader → List ℕ → ℕ → List Entry → Type 0
+TakenBy size reader s before [] = (reader s before ≡ taken Record.end 0 before) × (drop size s ≡ [])
+TakenBy size reader s before (e ∷ trace) =
+    (reader s before ≡ taken (kind-of e) (action-of e) (stamp-of e)) × TakenBy size reader (drop size s) (stamp-of e) trace
+
 abbrev pub TakenAs : List ℕ → ℕ → List Entry → Type 0
-TakenAs s before [] = (record-answer s before ≡ taken Record.end 0 before) × (drop record-size s ≡ [])
-TakenAs s before (e ∷ trace) =
-    (record-answer s before ≡ taken (kind-of e) (action-of e) (stamp-of e)) × TakenAs (drop record-size s) (stamp-of e) trace
+TakenAs s before trace = TakenBy record-size record-answer s before trace

@@ -26,16 +26,16 @@ pub enum RecordRead {
 }
 
 // The two bits of kind.
-fn kind_field(s: &[u8]) -> u64
-    requires { ⌜ record-size ≤ length (now s) ⌝ }
+pub fn kind_field(s: &[u8]) -> u64
+    requires { ⌜ 1 ≤ length (now s) ⌝ }
     ensures { λ r. ⌜ r ≡ field (now (s .entry)) 0 2 ⌝ }
 {
     fields::field_at(s, 0, 2)
 }
 
 // The 6 bits of action.
-fn action_field(s: &[u8]) -> u8
-    requires { ⌜ record-size ≤ length (now s) ⌝ }
+pub fn action_field(s: &[u8]) -> u8
+    requires { ⌜ 1 ≤ length (now s) ⌝ }
     ensures { λ r. ⌜ r ≡ field (now (s .entry)) 2 6 ⌝ }
 {
     fields::field_at(s, 2, 6) as u8
@@ -60,7 +60,7 @@ fn sum_above(before: u64, less: u64) -> bool
 }
 
 // The record that these fields are, by its kind, each with its own rules.
-fn record_of(kind: u64, action: u8, less: u64, before: u64) -> RecordRead
+pub fn record_of(kind: u64, action: u8, less: u64, before: u64) -> RecordRead
     requires { ⌜ kind < 4 ⌝ }
     ensures { λ r. ⌜ r ≡ case-of (answered (fields-refusal kind action less before) (taken kind action (before + less))) ⌝ }
 {
@@ -113,7 +113,7 @@ pub fn read_record(s: &[u8], before: u64) -> RecordRead
 }
 
 // The reader took a record.
-fn is_taken(read: RecordRead) -> bool
+pub fn is_taken(read: RecordRead) -> bool
     ensures { λ r. ⌜ r ≡ eqb (numbers read .refusal) 0 ⌝ }
 {
     match read {
