@@ -1,0 +1,160 @@
+-- The reader's answer: a record of the card is read as the record of document 01 with the same kind and action, whose stamp field is the
+-- wrapped difference, or for an end the counter itself.
+use Prim.Native.Nat.{ℕ, zero, suc, _+_, _<_, _≤_}
+use mathlib.Core.Bool.{Bool, true, false, not, cond, or-true}
+use mathlib.Core.Path.{_≡_, refl, sym, _∙_, ap, subst}
+use mathlib.Core.List.{List}
+use native.Mathlib.Omega.{arith}
+use lib.ListN.{length}
+use lib.Dec.{eqb}
+use borrow.Author.Tests.{lt-ltb, le-ltb, ltb-false, eqb-true, eq-eqb, ne-eqb}
+use Rattle.meaning.specs.Numbers.{given, first-of}
+use Rattle.meaning.proofs.Refusals.{given-none, none-first, unless-taken, unless-kept}
+use Rattle.fields.specs.Fields.{field}
+use Rattle.record_form.specs.Record.{RecordAnswer, end, numbers, case-of, case-by, taken, refused, answered, broken, stamp-above, fields-refusal}
+use Rattle.record_form.specs.declared.RecordRead.{RecordRead}
+use Rattle.record_form.specs.declared.RecordRead.the-variants.{Refused}
+use Rattle.record_form.proofs.Rules.{broken-line, broken-gap, broken-end}
+use Rattle.record_form.proofs.Reading.{field-lt, fields-numbers, fields-same-numbers, answered-number}
+use Rattle.record_form.proofs.Reader.{by-size}
+use Rattle.tap_form.specs.Tap.{tap-size, since, tap-stamp, tap-fields-refusal, tap-refusal, tap-answer, IsTapRead, tap-bytes-read}
+
+-- the answer to fields
+abbrev pub tap-numbers : ℕ → ℕ → ℕ → ℕ → RecordAnswer
+tap-numbers kind action counter before =
+    answered (tap-fields-refusal kind action counter before) (taken kind action (tap-stamp kind counter before))
+
+-- the stamp field of the record of document 01
+abbrev pub stamp-field : ℕ → ℕ → ℕ → ℕ
+stamp-field kind counter before = cond (eqb kind end) counter (since counter before)
+
+-- "each next one the stamp before plus the wrapped difference", but for an end
+pub line-stamp : (kind counter before : ℕ) → kind < 3 → tap-stamp kind counter before ≡ before + since counter before
+unfolding tap-stamp
+line-stamp kind counter before h = simp (ne-eqb kind 3 (λ e. omega (arith, h, e)))
+
+pub end-stamp : (kind counter before : ℕ) → kind ≡ 3 → tap-stamp kind counter before ≡ before
+unfolding tap-stamp
+end-stamp kind counter before e = simp (eq-eqb kind 3 e)
+
+-- ---- by the kind
+module _ (action counter before : ℕ) where
+  -- what is not an end is broken or not whatever its third field is
+  as-line : (kind : ℕ) (x y : Bool) (stamp : ℕ) → broken kind action x ≡ broken kind action y
+      → answered (first-of (given 8 (broken kind action x)) (given 4 (stamp-above stamp before))) (taken kind action stamp)
+      ≡ answered (first-of (given 8 (broken kind action y)) (given 4 (stamp-above stamp before))) (taken kind action stamp)
+  as-line kind x y stamp e = ap (λ (b : Bool). answered (first-of (given 8 b) (given 4 (stamp-above stamp before))) (taken kind action stamp)) e
+
+  as-end : fields-numbers end action counter before ≡ tap-numbers end action counter before
+  unfolding fields-refusal tap-fields-refusal tap-stamp answered
+  as-end = go (eqb counter 0) refl
+    where
+      go : (b : Bool) → eqb counter 0 ≡ b
+          → answered (first-of (given 8 (broken end action (not (eqb counter 0)))) (given 4 (stamp-above (before + counter) before))) (taken end action (before + counter))
+          ≡ answered (first-of (given 8 (broken end action (not (eqb counter 0)))) (given 4 (stamp-above before before))) (taken end action before)
+      go true e =
+          let same : before + counter ≡ before = omega (arith, eqb-true counter 0 e) in
+          ap (λ (n : ℕ). answered (first-of (given 8 (broken end action (not (eqb counter 0)))) (given 4 (stamp-above n before))) (taken end action n)) same
+      go false e =
+          let bad : broken end action (not (eqb counter 0)) ≡ true = ap (λ (b : Bool). broken end action (not b)) e ∙ broken-end end action true refl ∙ or-true (not (eqb action 0)) in
+          simp bad
+
+  pub as-record : (kind : ℕ) → kind < 4 → fields-numbers kind action (stamp-field kind counter before) before ≡ tap-numbers kind action counter before
+  unfolding fields-refusal tap-fields-refusal tap-stamp
+  as-record zero h = as-line 0 _ _ _ (broken-line 0 action _ (omega arith) ∙ sym (broken-line 0 action _ (omega arith)))
+  as-record (suc zero) h = as-line 1 _ _ _ (broken-line 1 action _ (omega arith) ∙ sym (broken-line 1 action _ (omega arith)))
+  as-record (suc (suc zero)) h = as-line 2 _ _ _ (broken-gap 2 action _ refl ∙ sym (broken-gap 2 action _ refl))
+  as-record (suc (suc (suc zero))) h = as-end
+  as-record (suc (suc (suc (suc kind)))) h = let z : ⊥ = omega arith in absurd z
+
+  -- as the code has them
+  pub end-as-record : (kind : ℕ) → kind < 4 → kind ≡ 3 → fields-numbers kind action counter before ≡ tap-numbers kind action counter before
+  end-as-record kind h e =
+      ap (λ (b : Bool). fields-numbers kind action (cond b counter (since counter before)) before) (sym (eq-eqb kind 3 e)) ∙ as-record kind h
+
+  pub line-as-record : (kind less : ℕ) → kind < 4 → (kind ≡ 3 → ⊥) → less ≡ since counter before
+      → fields-numbers kind action less before ≡ tap-numbers kind action counter before
+  line-as-record kind less h n e =
+      ap (λ (m : ℕ). fields-numbers kind action m before) e
+      ∙ ap (λ (b : Bool). fields-numbers kind action (cond b counter (since counter before)) before) (sym (ne-eqb kind 3 n))
+      ∙ as-record kind h
+
+-- ---- bytes
+module _ (s : List ℕ) (before : ℕ) where
+  pub tap-short : length s < 5 → tap-answer s before ≡ refused 7
+  unfolding tap-answer tap-refusal answered
+  tap-short h = simp (lt-ltb _ _ h)
+
+  pub tap-long : 5 ≤ length s → tap-answer s before ≡ tap-numbers (field s 0 2) (field s 2 6) (field s 8 32) before
+  unfolding tap-answer tap-refusal
+  tap-long h = simp (le-ltb _ _ h)
+
+  pub tap-number : tap-answer s before .refusal ≡ tap-refusal s before
+  unfolding tap-answer
+  tap-number = answered-number (tap-refusal s before) (taken (field s 0 2) (field s 2 6) (tap-stamp (field s 0 2) (field s 8 32) before)) refl
+
+  -- What holds of bytes that are taken.
+  pub record TapReadable : Type 0 where
+    pub size : 5 ≤ length s
+    pub sound : broken (field s 0 2) (field s 2 6) (not (eqb (field s 8 32) 0)) ≡ false
+    pub in-range : stamp-above (tap-stamp (field s 0 2) (field s 8 32) before) before ≡ false
+
+  pub tap-is-taken : tap-refusal s before ≡ 0 → TapReadable
+  unfolding tap-refusal tap-fields-refusal
+  tap-is-taken e =
+      let p = none-first 6 _ e in
+      let q = none-first 7 _ (p .1) in
+      record { size = ltb-false _ _ (p .0); sound = q .0; in-range = given-none 3 _ (q .1) }
+
+  tap-taken : tap-refusal s before ≡ 0 → tap-answer s before ≡ taken (field s 0 2) (field s 2 6) (tap-stamp (field s 0 2) (field s 8 32) before)
+  unfolding tap-answer answered
+  tap-taken e = rw e
+
+  -- what was taken, by its fields
+  pub tap-fields : (kind action stamp : ℕ) → tap-answer s before ≡ taken kind action stamp
+      → TapReadable × (taken (field s 0 2) (field s 2 6) (tap-stamp (field s 0 2) (field s 8 32) before) ≡ taken kind action stamp)
+  tap-fields kind action stamp e =
+      let none = sym tap-number ∙ ap (λ (a : RecordAnswer). a .refusal) e in
+      (tap-is-taken none, sym (tap-taken none) ∙ e)
+
+  -- an end's stamp is the one before
+  pub tap-end : (action stamp : ℕ) → tap-answer s before ≡ taken end action stamp → stamp ≡ before
+  tap-end action stamp e =
+      let v = tap-fields end action stamp e .1 in
+      sym (ap (λ (a : RecordAnswer). a .stamp) v) ∙ end-stamp (field s 0 2) (field s 8 32) before (ap (λ (a : RecordAnswer). a .kind) v)
+
+  -- the fields one by one, and then their record
+  pub tap-read-fields : (kind action counter : ℕ) (r : RecordRead) → 5 ≤ length s
+      → kind ≡ field s 0 2 → action ≡ field s 2 6 → counter ≡ field s 8 32 → r ≡ case-of (tap-numbers kind action counter before)
+      → IsTapRead s before r
+  tap-read-fields kind action counter r h hk ha hc e =
+      let same : tap-numbers kind action counter before ≡ tap-answer s before = rw (hk, ha, hc) (sym (tap-long h)) in
+      let small : kind < 4 = omega (arith, field-lt s 0 2) in
+      let f = as-record action counter before kind small in
+      record {
+        answer = e ∙ ap case-of same;
+        in-numbers =
+            ap numbers (e ∙ ap case-of (sym f)) ∙ fields-same-numbers kind action (stamp-field kind counter before) before (omega (arith, small)) ∙ f ∙ same;
+      }
+
+  pub tap-read-short : length s < 5 → IsTapRead s before (Refused 7)
+  unfolding case-by
+  tap-read-short h = let e = tap-short h in record { answer = ap case-of (sym e); in-numbers = sym e }
+
+  pub tap-always-read : IsTapRead s before (case-of (tap-answer s before))
+  tap-always-read =
+      by-size tap-size s
+      (λ h. known (tap-read-fields (field s 0 2) (field s 2 6) (field s 8 32) _ h refl refl refl refl))
+      (λ h. known (tap-read-short h))
+    where
+      known : {r : RecordRead} → IsTapRead s before r → IsTapRead s before (case-of (tap-answer s before))
+      known h = subst (IsTapRead s before) (h .answer) h
+
+  -- ---- the rest
+  pub tap-size-taken : tap-refusal s before ≡ 0 → tap-bytes-read s before ≡ 5
+  unfolding tap-bytes-read
+  tap-size-taken e = unless-taken (tap-refusal s before) 5 0 e
+
+  pub tap-size-refused : (tap-refusal s before ≡ 0 → ⊥) → tap-bytes-read s before ≡ 0
+  unfolding tap-bytes-read
+  tap-size-refused h = unless-kept (tap-refusal s before) 5 0 h
