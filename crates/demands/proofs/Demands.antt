@@ -1,12 +1,12 @@
 -- The demands of document 00 as theorems: open this file first. Its words are defined in crates/meaning/specs and crates/demands/specs;
 -- `running p calls` is the session after any calls on a fresh one, `seen p calls` what those calls have come to by the rules.
 use Prim.Native.Nat.{ℕ, suc, _+_, _*_, _/_, _%_, _≤_, _<_}
-use mathlib.Core.Path.{_≡_, refl, sym, _∙_, ap}
-use mathlib.Core.Bool.{true, false, not}
+use mathlib.Core.Path.{_≡_, sym, _∙_, ap}
+use mathlib.Core.Bool.{true, false}
 use mathlib.Core.List.{List, [], _∷_, _++_}
 use native.Mathlib.Omega.{arith}
 use lib.ListN.{length}
-use lib.Dec.{ltb, eqb}
+use lib.Dec.{ltb}
 use Rattle.meaning.specs.Words.{Line, Run, StampsFrom, Property as PropertyMeant}
 use Rattle.meaning.specs.Node.{Breaks, Verdict, VerdictFor, IsVerdict, verdict-number}
 use Rattle.meaning.specs.Numbers.{given, first-of, property-refusal}
@@ -23,16 +23,12 @@ use Rattle.stays_told.proofs.NeverFalls.{never-falls, never-falls-after}
 use Rattle.stays_told.proofs.Calls.{closed-not-above, standing-stays, answers-stay, has-verdict}
 use Rattle.property.specs.Meant.{meant}
 use Rattle.property.specs.declared.Property as Data
-use Rattle.property_form.specs.Read.{property-read, zeros, too-short, pad-broken, read-refusal as property-read-refusal, taken as property-taken}
+use Rattle.property_form.specs.Read.{property-read, read-refusal as property-read-refusal, taken as property-taken}
 use Rattle.property_form.specs.Read
-use Rattle.property_form.specs.Write
-use Rattle.property_form.specs.Form.{property-form}
-use Rattle.property_form.proofs.Answers.{read-refused, taken-none, written-refused, left-refused}
-use Rattle.record_form.specs.Record.{Bytes, record-answer, read-refusal, fields-refusal, bytes-read, broken, stamp-above, write-refusal}
-use Rattle.record_form.specs.Record
+use Rattle.record_form.specs.Record.{Reader, Bytes, record-size, record-answer}
 use Rattle.record_form.specs.Trace.{trace-form}
+use Rattle.record_form.proofs.Reader.{Reads, record-reads}
 use Rattle.cuts.specs.Steps.{fresh-by, refusal-by}
-use Rattle.fields.specs.Fields.{field}
 use Rattle.session_record.specs.declared.Session.{Session}
 use Rattle.session_record.specs.Record.{record-of, cuts-of, out-of-range}
 use Rattle.session_record.specs.Step.{answer-of, refusal-of, fresh-of, stepped-of, no-session}
@@ -43,7 +39,7 @@ use Rattle.stretch.specs.Judge.{judge-of, one-number}
 use Rattle.stretch.proofs.Judging.{one-long}
 use Rattle.printout.specs.Text.{header-text, stop-text, text-of}
 use Rattle.printed.specs.Printed.{printed-of}
-use Rattle.printed.specs.Listing.{listing-of}
+use Rattle.printed.specs.Listing.{listing-by}
 pub use Rattle.printed.proofs.Whole.{listing-taken, listing-refused, counted as listing-count}
 use Rattle.demands.specs.Refuses.{Refuses}
 use Rattle.demands.specs.Uses.{Use, session-through}
@@ -53,14 +49,15 @@ use Rattle.demands.proofs.Exact.{blind-kept, exact-kept, line-told, say
 use Rattle.demands.proofs.Walks.{WalkedOver, walk-over, walk-named, walk-rest}
 use Rattle.demands.proofs.Judging.{JudgeTaken, judge-taken, judge-first, judge-alone, taken-apart}
 use Rattle.demands.proofs.Uses.{uses-are-calls}
-use Rattle.demands.proofs.Listing.{ShownAs, refused-shown, read-good, listing-shown}
-use Rattle.demands.proofs.Forms.{record-number, record-refused, record-not-written, fresh-number}
+use Rattle.demands.proofs.Listing.{ShownBy, refused-shown, read-good, listing-shown}
+use Rattle.demands.proofs.Forms.{fresh-number}
 -- "Packed properties and traces read back as written, and only one packing of each is taken." Numbers of a listing are decimal.
 pub use Rattle.property_form.proofs.RoundTrip.{write-then-read as property-reads-back, read-then-write as property-writes-back, one-packing as property-one-packing}
 pub use Rattle.record_form.proofs.Trace.{trace-reads-back, trace-writes-back, trace-one-packing}
 pub use Rattle.demands.proofs.Written.{written-trace}
 pub use Rattle.demands.proofs.Digits.{decimal-reads}
 pub use Rattle.demands.proofs.Forms.{begins-one-packing}
+pub use Rattle.demands.proofs.Packed.{demand-1-read-property, demand-1-write-property, demand-1-read-record, demand-1-write-record}
 -- Names (document 02, CR 2), in `Names`: the lists, `names::refused` and `name`, the listing with names.
 pub use Rattle.demands.proofs.Names.{list-taken, list-back, list-one-packing, one-list, one-entry, demand-1-names, demand-name, demand-1-lists, demand-1-named, demand-named}
 -- What is called (`Called`). A verdict once told stays told (document 02, CR 3): of the calls that run (`Told`), behind `running-3`.
@@ -155,45 +152,7 @@ pub fresh-begins : (p : Data.Property) → property-refusal (meant p) ≡ 0
     → fresh-of p ≡ record { answer = record { refusal = 0; verdict = 0; open_count = 0 }; session = record-of p (fresh-by p) }
 fresh-begins p = fresh-taken p
 
--- `read_property` with `property_rest`: 7, 8, 1, 2, 3; a property of zeros, and no byte is taken.
-pub demand-1-read-property : (s : List ℕ)
-    → Refuses (Read.read s .refusal) (first-of (given 7 (too-short s)) (first-of (given 8 (pad-broken s)) (property-refusal (meant (property-read s)))))
-    (λ n. (Read.read s ≡ record { refusal = n; property = zeros }) × (property-taken s ≡ 0))
-unfolding Read.read property-read-refusal
-demand-1-read-property s =
-    record {
-      first = refl;
-      alone = λ n e. (sym (read-refused s (suc n) zeros (sym e) (λ z. omega arith) refl), sym (taken-none s (λ z. omega (arith, e, z))));
-    }
-
--- `write_property`: 1, 2, 3, 9; no byte is written.
-pub demand-1-write-property : (q : PropertyMeant) (buffer : List ℕ)
-    → Refuses (Write.written q buffer .refusal) (first-of (property-refusal q) (given 9 (ltb (length buffer) (length (property-form q)))))
-    (λ n. (Write.written q buffer ≡ record { refusal = n; size = 0 }) × (Write.left q buffer ≡ buffer))
-unfolding Write.written Write.write-refusal
-demand-1-write-property q buffer =
-    record {
-      first = refl;
-      alone = λ n e. (sym (written-refused q buffer (suc n) (sym e) (λ z. omega arith)), sym (left-refused q buffer (λ z. omega (arith, e, z))));
-    }
-
--- `read_record` with `record_rest`: 7, 8, 4; zeros, and no byte is taken.
-pub demand-1-read-record : (s : List ℕ) (before : ℕ)
-    → Refuses (record-answer s before .refusal)
-    (first-of (given 7 (ltb (length s) 6))
-    (first-of (given 8 (broken (field s 0 2) (field s 2 6) (not (eqb (field s 8 40) 0)))) (given 4 (stamp-above (before + field s 8 40) before))))
-    (λ n. (record-answer s before ≡ Record.refused n) × (bytes-read s before ≡ 0))
-unfolding read-refusal fields-refusal
-demand-1-read-record s before = record { first = record-number s before; alone = λ n e. record-refused s before n (sym (record-number s before) ∙ e) }
-
--- `write_record`: 8, 3, 4, 5, 9; no byte is written.
-pub demand-1-write-record : (kind action stamp before : ℕ) (buffer : List ℕ)
-    → Refuses (write-refusal kind action stamp before (length buffer))
-    (first-of (given 8 (broken kind action (not (eqb stamp before))))
-    (first-of (given 3 (ltb 63 action)) (first-of (given 4 (stamp-above stamp before)) (first-of (given 5 (ltb stamp before)) (given 9 (ltb (length buffer) 6))))))
-    (λ n. Record.written kind action stamp before buffer ≡ buffer)
-unfolding write-refusal
-demand-1-write-record kind action stamp before buffer = record { first = refl; alone = record-not-written kind action stamp before buffer }
+-- The packed forms, in `Packed`: `read_property` with `property_rest`, `write_property`, `read_record` with `record_rest`, `write_record`.
 
 -- ==== The calls that run, from a fresh session, for all call orders and all numbers
 module _ (p : Data.Property) (good : property-refusal (meant p) ≡ 0) where
@@ -284,15 +243,22 @@ pub judge-one-packing : {property trace other : List ℕ} → (a : JudgeTaken pr
 judge-one-packing a b e = a .trace-packed ∙ ap (trace-form 0) e ∙ sym (b .trace-packed)
 
 -- ==== The listing: the header; a refused property, `stop 0` and its number; one that is taken, a line for each record taken, which
--- shows it and the verdict and number open that the rules give after it, and the last line (`ShownAs`).
-pub record Demand-listing (property records : List ℕ) : Type 0 where
-  pub refused : (n : ℕ) → Read.read property .refusal ≡ suc n → listing-of property records ≡ header-text ++ stop-text 0 (suc n)
+-- shows it and the verdict and number open that the rules give after it, and the last line (`ShownBy`), of records of a size and their reader.
+pub record Demand-listing (size : ℕ) (reader : Reader) (property records : List ℕ) : Type 0 where
+  pub refused : (n : ℕ) → Read.read property .refusal ≡ suc n → listing-by size reader property records ≡ header-text ++ stop-text 0 (suc n)
   pub taken : (e : Read.read property .refusal ≡ 0)
-      → (text : List ℕ) × (listing-of property records ≡ header-text ++ text) × ShownAs (Read.read property .property) (read-good property e) [] 0 records text
+      → (text : List ℕ) × (listing-by size reader property records ≡ header-text ++ text)
+      × ShownBy (Read.read property .property) (read-good property e) size reader [] 0 records text
 
-pub demand-listing : (property records : List ℕ) → Demand-listing property records
-demand-listing property records =
-    record { refused = listing-refused property records; taken = λ e. (_, listing-taken property records e, listing-shown property records e) }
+listing-listed : {size : ℕ} {reader : Reader} → Reads size reader → (property records : List ℕ) → Demand-listing size reader property records
+listing-listed {size} {reader} reads property records =
+    record {
+      refused = listing-refused size reader property records;
+      taken = λ e. (_, listing-taken size reader property records e, listing-shown size reader reads property records e);
+    }
+
+pub demand-listing : (property records : List ℕ) → Demand-listing record-size record-answer property records
+demand-listing = listing-listed record-reads
 
 -- `printed::record` on any record: what the walk of one record refuses (10 first) is the number that its last line names.
 pub demand-1-printed : (s : Session) (count : ℕ) (bytes : List ℕ) (n : ℕ) → walk-of s bytes 1 .refusal ≡ suc n

@@ -1,21 +1,22 @@
 -- Fresh calls and the packed forms: what is refused, and records that a walk takes.
-use Prim.Native.Nat.{ℕ, zero, suc, _+_, _*_, _<_}
-use mathlib.Core.Path.{_≡_, refl, sym, _∙_, ap, ap₂, subst}
+use Prim.Native.Nat.{ℕ, zero, suc, _+_, _*_}
+use mathlib.Core.Path.{_≡_, refl, sym, _∙_, ap, ap₂}
 use mathlib.Core.List.{List, [], _∷_, _++_}
 use native.Mathlib.Omega.{arith}
 use lib.ListN.{length, take, drop}
-use lib.Seq.{getD-drop, take-add}
+use lib.Seq.{take-add}
 use Rattle.meaning.specs.Numbers.{property-refusal}
+use Rattle.meaning.specs.Calls.{unless-refused}
 use Rattle.meaning.proofs.Refusals.{unless-kept}
 use Rattle.property.specs.Meant.{meant}
 use Rattle.property.specs.declared.Property.{Property}
 use Rattle.session_record.specs.declared.Stepped.{Stepped}
 use Rattle.session_record.specs.Step.{fresh-of}
 use Rattle.session_record.proofs.Steps.{fresh-refused, fresh-taken}
-use Rattle.record_form.specs.Record.{Bytes, record-size, record-answer, read-refusal, bytes-read, write-refusal, written, answered}
+use Rattle.record_form.specs.Record.{RecordAnswer, Bytes, record-size, write-refusal, written, answered}
 use Rattle.record_form.specs.Record
 use Rattle.record_form.specs.Trace.{Entry, kind-of, action-of, stamp-of}
-use Rattle.record_form.proofs.Reading.{refusal-of}
+use Rattle.record_form.proofs.Trace.{Bytes-drop}
 use Rattle.record_form.proofs.RoundTrip.{record-one-packing}
 use Rattle.demands.specs.Traces.{BeginsWith}
 
@@ -27,15 +28,12 @@ fresh-number p = go (property-refusal (meant p)) refl
     go zero e = ap (λ (r : Stepped). r .answer .refusal) (fresh-taken p e)
     go (suc n) e = ap (λ (r : Stepped). r .answer .refusal) (fresh-refused p (suc n) e (λ z. omega arith))
 
--- the number of a record read is the reader's refusal
-pub record-number : (s : List ℕ) (before : ℕ) → record-answer s before .refusal ≡ read-refusal s before
-record-number = refusal-of
-
-pub record-refused : (s : List ℕ) (before n : ℕ) → read-refusal s before ≡ suc n → (record-answer s before ≡ Record.refused (suc n)) × (bytes-read s before ≡ 0)
-unfolding record-answer answered bytes-read
-record-refused s before n e = (
-  unless-kept (read-refusal s before) _ _ (λ z. omega (arith, e, z)) ∙ ap Record.refused e,
-  unless-kept (read-refusal s before) record-size 0 (λ z. omega (arith, e, z)),
+-- a reader's answer that is refused with a number, and the bytes that it takes
+pub answer-refused : (number n size : ℕ) (answer : RecordAnswer) → number ≡ suc n → (answered number answer ≡ Record.refused (suc n)) × (unless-refused number size 0 ≡ 0)
+unfolding answered
+answer-refused number n size answer e = (
+  unless-kept number _ _ (λ z. omega (arith, e, z)) ∙ ap Record.refused e,
+  unless-kept number size 0 (λ z. omega (arith, e, z)),
 )
 
 pub record-not-written : (kind action stamp before : ℕ) (buffer : List ℕ) (n : ℕ) → write-refusal kind action stamp before (length buffer) ≡ suc n
@@ -52,9 +50,6 @@ begins-one-packing s t before (e ∷ entries) bs bt hs ht =
     ap (λ (n : ℕ). take n s) more
     ∙ take-add record-size (record-size * length entries) s
     ∙ ap₂ _++_ (record-one-packing s t before (kind-of e) (action-of e) (stamp-of e) bs bt (hs .0) (ht .0))
-    (begins-one-packing (drop record-size s) (drop record-size t) (stamp-of e) entries (behind-bytes s bs) (behind-bytes t bt) (hs .1) (ht .1))
+    (begins-one-packing (drop record-size s) (drop record-size t) (stamp-of e) entries (Bytes-drop record-size s bs) (Bytes-drop record-size t bt) (hs .1) (ht .1))
     ∙ sym (take-add record-size (record-size * length entries) t)
     ∙ ap (λ (n : ℕ). take n t) (sym more)
-  where
-    behind-bytes : (u : List ℕ) → Bytes u → Bytes (drop record-size u)
-    behind-bytes u b i = subst (λ (x : ℕ). x < 256) (sym (getD-drop record-size u i 0)) (b (record-size + i))

@@ -17,6 +17,7 @@ use Rattle.record_form.specs.Record.{record-size, record-answer}
 use Rattle.record_form.specs.Record
 use Rattle.record_form.specs.ReadAs.{ReadAs, read-as}
 use Rattle.record_form.specs.Trace.{Entry, kind-of, action-of, stamp-of, entry-call, TakenAs}
+use Rattle.record_form.proofs.Reader.{record-reads}
 use Rattle.record_form.proofs.ReadAs.{always-read, read-whole}
 use Rattle.session_record.specs.declared.Session.{Session}
 use Rattle.session_record.specs.Record.{latest-of}
@@ -112,7 +113,7 @@ module _ (p : Property) (good : property-refusal (meant p) ≡ 0) where
   unfolding walk-on first-met
   judged-first zero calls bytes = unfold by-stop in refl
   judged-first (suc n) calls bytes =
-      by-front (read-as (record-answer bytes (latest-of s))) (front bytes (latest-of s)) (λ more l. judged-first n more l)
+      by-front (read-as (record-answer bytes (latest-of s))) (front record-reads bytes (latest-of s)) (λ more l. judged-first n more l)
       ∙ ap (λ (t : ℕ). met (meant p) w bytes (read-as (record-answer bytes t)) (λ after. first-met n (meant p) after (drop record-size bytes))) (running-latest p good calls)
     where
       s : Session
@@ -145,7 +146,7 @@ module _ (p : Property) (good : property-refusal (meant p) ≡ 0) where
       at-the-end true = unfold by-stop in refl
       at-the-end false = unfold by-stop in refl
 
-      by-front : (x : ReadAs) → Front bytes (latest-of s) x → IH
+      by-front : (x : ReadAs) → Front record-answer bytes (latest-of s) x → IH
           → judged bytes (walked-by (one-read s x) s f) ≡ met (meant p) w bytes x (λ after. first-met n (meant p) after (drop record-size bytes))
       by-front x (entry e q) ih =
           unfold one-read in

@@ -9,6 +9,7 @@ pub mod Judged
 pub mod Judging
 pub mod Written
 pub mod Forms
+pub mod Packed
 pub mod Digits
 pub mod Listing
 pub mod Named

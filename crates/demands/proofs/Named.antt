@@ -19,7 +19,7 @@ use Rattle.printout.specs.Named.{named-line-text}
 use Rattle.printout.proofs.Fits.{text-held}
 use Rattle.printed.specs.declared.Printed.{Printed}
 use Rattle.printed.specs.Printed.{kind-of, call-text, printed-of, opening-text, begun-of}
-use Rattle.printed.specs.Listing.{shown, and-more, lines-of, records-text, listing-of}
+use Rattle.printed.specs.Listing.{shown, and-more, lines-of, records-text, listing-of, lines-by, listing-by}
 use Rattle.named.specs.Named.{names-of, named-call-text, named-by-one, named-of}
 use Rattle.named.specs.Listing.{named-lines-of, named-log}
 use Rattle.named.proofs.Fits.{named-held}
@@ -95,7 +95,7 @@ module _ (site release : List ℕ) where
         (no-row (cond (out-of-range s) (stop-text count 10) (named-by-one names count (one-of s bytes)) ++ []))
 
   same-lines : (most : ℕ) (s : Session) (count : ℕ) (bytes : List ℕ) → SameRows names (lines-of most s count bytes) (named-lines-of site release most s count bytes)
-  unfolding lines-of named-lines-of named-of
+  unfolding lines-by named-lines-of named-of
   same-lines zero s count bytes = no-row []
   same-lines (suc most) s count bytes =
       let front = take record-size bytes in
@@ -117,7 +117,7 @@ module _ (site release : List ℕ) where
   -- The log with names, and the listing's text behind its header.
   pub same-log : (property records : List ℕ)
       → (plain : List ℕ) × (listing-of property records ≡ header-text ++ plain) × SameRows names plain (named-log site release property records)
-  unfolding listing-of named-log begun-of
+  unfolding listing-by named-log begun-of
   same-log property records =
       let b = begun-of property in (
         and-more b (records-text (b .session) (b .count) records),

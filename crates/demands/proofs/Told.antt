@@ -21,6 +21,7 @@ use Rattle.stays_told.proofs.NeverFalls.{never-falls-after}
 use Rattle.stays_told.proofs.Calls.{standing-stays, answers-stay, closed-not-above, mark-at-most, still-open, with-line-more}
 use Rattle.property.specs.Meant.{meant}
 use Rattle.property.specs.declared.Property.{Property}
+use Rattle.record_form.specs.Record.{Reader}
 use Rattle.record_form.specs.Trace.{Entry, kind-of, action-of, stamp-of, entry-call}
 use Rattle.session_record.specs.declared.Session.{Session}
 use Rattle.session_record.specs.Step.{standing, fresh-of, stepped-of, stepped-through}
@@ -34,7 +35,7 @@ use Rattle.demands.specs.Told.{Row, unless-gap, NotBelow, StayTold, told
 use Rattle.demands.proofs.Running.{through-append, running, seen, running-number, running-next, running-range, seen-taken}
 use Rattle.demands.proofs.Exact.{exact-kept, line-told, standing-told, says-blind}
 use Rattle.demands.proofs.Walks.{walk-over}
-use Rattle.demands.proofs.Listing.{ShownAs}
+use Rattle.demands.proofs.Listing.{ShownBy}
 
 module _ (p : Property) (good : property-refusal (meant p) ≡ 0) where
   abbrev q : Words.Property
@@ -214,7 +215,7 @@ module _ (p : Property) (good : property-refusal (meant p) ≡ 0) where
       }
 
   -- nor does what a listing shows.
-  pub listing-stays : {before : List Call} {number : ℕ} {bytes text : List ℕ} (r : ShownAs p good before number bytes text)
+  pub listing-stays : {size : ℕ} {reader : Reader} {before : List Call} {number : ℕ} {bytes text : List ℕ} (r : ShownBy p good size reader before number bytes text)
       → ShownRows q before number (r .entries) (r .lines) (StayTold (standing (running p good before)))
   listing-stays {before} {number} r =
       let s = shown-rows before number (r .entries) (r .lines) (r .shows) in

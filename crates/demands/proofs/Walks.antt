@@ -12,14 +12,14 @@ use Rattle.meaning.specs.Step.{Cuts}
 use Rattle.meaning.specs.History.{stamp-of as call-stamp}
 use Rattle.property.specs.Meant.{meant}
 use Rattle.property.specs.declared.Property.{Property}
-use Rattle.record_form.specs.Record.{record-size, record-answer, case-of, IsRead}
+use Rattle.record_form.specs.Record.{Reader, ReadBy, record-size, record-answer, case-of}
 use Rattle.record_form.specs.Record
 use Rattle.record_form.specs.ReadAs.{ReadAs, read-as, case-as}
 use Rattle.record_form.specs.Trace.{Entry, kind-of, action-of, stamp-of, entry-call}
 use Rattle.record_form.specs.declared.RecordRead.{RecordRead}
 use Rattle.record_form.specs.declared.RecordRead.the-variants.{Input, Output, Gap, End as RecordEnd, Refused as RecordRefused}
-use Rattle.record_form.proofs.Reading.{refusal-of}
-use Rattle.record_form.proofs.ReadAs.{read-case, always-read, end-stamp, refused-given}
+use Rattle.record_form.proofs.ReadAs.{read-case, refused-given}
+use Rattle.record_form.proofs.Reader.{Reads, record-reads}
 use Rattle.cuts.specs.Steps.{front-after, front-fresh, front-none, taken-by}
 use Rattle.session_record.specs.declared.Session.{Session}
 use Rattle.session_record.specs.declared.Stepped.{Stepped}
@@ -34,27 +34,27 @@ use Rattle.walk.proofs.Going.{walk-refused, walk-taken}
 use Rattle.walk.proofs.Steps.{rest-behind}
 use Rattle.demands.specs.Traces.{calls-of, BeginsWith, behind, TakenOneByOne, StopsBy}
 
--- What the record at the front is: an entry of a trace, the end, or refused.
-pub data Front (s : List ℕ) (before : ℕ) : ReadAs → Type 0 where
-  entry : (e : Entry) → record-answer s before ≡ Record.taken (kind-of e) (action-of e) (stamp-of e) → Front s before (ReadAs.call (entry-call e))
-  ended : record-answer s before ≡ Record.taken Record.end 0 before → Front s before ReadAs.end
-  refused : (n : ℕ) → record-answer s before .refusal ≡ n → (n ≡ 0 → ⊥) → Front s before (ReadAs.refused n)
+-- What the record at the front is, as a reader reads it: an entry of a trace, the end, or refused.
+pub data Front (reader : Reader) (s : List ℕ) (before : ℕ) : ReadAs → Type 0 where
+  entry : (e : Entry) → reader s before ≡ Record.taken (kind-of e) (action-of e) (stamp-of e) → Front reader s before (ReadAs.call (entry-call e))
+  ended : reader s before ≡ Record.taken Record.end 0 before → Front reader s before ReadAs.end
+  refused : (n : ℕ) → reader s before .refusal ≡ n → (n ≡ 0 → ⊥) → Front reader s before (ReadAs.refused n)
 
-pub front : (s : List ℕ) (before : ℕ) → Front s before (read-as (record-answer s before))
-front s before = subst (Front s before) (sym (read-case h)) (go (case-of (record-answer s before)) h)
+pub front : {size : ℕ} {reader : Reader} → Reads size reader → (s : List ℕ) (before : ℕ) → Front reader s before (read-as (reader s before))
+front {size} {reader} reads s before = subst (Front reader s before) (sym (read-case h)) (go (case-of (reader s before)) h)
   where
-    h : IsRead s before (case-of (record-answer s before))
-    h = always-read s before
+    h : ReadBy reader s before (case-of (reader s before))
+    h = record { answer = refl; in-numbers = reads .by-case s before }
 
-    go : (r : RecordRead) → IsRead s before r → Front s before (case-as r)
+    go : (r : RecordRead) → ReadBy reader s before r → Front reader s before (case-as r)
     go (Input a t) k = entry (Entry.input a t) (sym (k .in-numbers))
     go (Output a t) k = entry (Entry.output a t) (sym (k .in-numbers))
     go (Gap t) k = entry (Entry.gap t) (sym (k .in-numbers))
     go (RecordEnd t) k =
         let e = sym (k .in-numbers) in
-        ended (e ∙ ap (Record.taken Record.end 0) (end-stamp s before 0 t e))
+        ended (e ∙ ap (Record.taken Record.end 0) (reads .end-stamp s before 0 t e))
     go (RecordRefused n) k =
-        let r = refused-given (record-answer s before) n (read-case k) in
+        let r = refused-given (reader s before) n (read-case k) in
         refused n (r .1) (r .0)
 
 -- a taken call leaves its stamp as the latest
@@ -112,7 +112,7 @@ walked-over zero s bytes =
       stops = (refl, refl, refl);
       read = refl;
     }
-walked-over (suc budget) s bytes = by-front (read-as (record-answer bytes (latest-of s))) (front bytes (latest-of s)) (λ after. walked-over budget after (drop record-size bytes))
+walked-over (suc budget) s bytes = by-front (read-as (record-answer bytes (latest-of s))) (front record-reads bytes (latest-of s)) (λ after. walked-over budget after (drop record-size bytes))
   where
     on : Session → Walked
     on after = walk-on budget after (drop record-size bytes)
@@ -160,12 +160,12 @@ walked-over (suc budget) s bytes = by-front (read-as (record-answer bytes (lates
     tried e read zero z k = unfold one-call walked-by in (one-taken e read z (on (stepped-of s (entry-call e) .session)) (k (stepped-of s (entry-call e) .session)))
     tried e read (suc n) z k = unfold one-call walked-by in (stop-here (Refused (suc n)) 0 (inr (e, read, z), (λ y. omega arith), refl))
 
-    by-front : (x : ReadAs) → Front bytes (latest-of s) x → ((after : Session) → WalkedOver after (drop record-size bytes) budget (in-numbers (on after)))
+    by-front : (x : ReadAs) → Front record-answer bytes (latest-of s) x → ((after : Session) → WalkedOver after (drop record-size bytes) budget (in-numbers (on after)))
         → WalkedOver s bytes (suc budget) (in-numbers (walked-by (one-read s x) s on))
     by-front x (entry e read) k = unfold one-read in (tried e read _ refl k)
     by-front x (ended read) k = unfold one-read walked-by in (stop-here End record-size (read, refl, refl))
     by-front x (refused n number some) k =
-        unfold one-read walked-by in (stop-here (Refused n) 0 (inl (sym (refusal-of bytes (latest-of s)) ∙ number), some, refl))
+        unfold one-read walked-by in (stop-here (Refused n) 0 (inl number, some, refl))
 
 -- Of the promised walk: refusal 10, whatever the budget, or that.
 pub walk-over : (s : Session) (bytes : List ℕ) (budget : ℕ) → out-of-range s ≡ false → WalkedOver s bytes (budget-of budget) (walk-of s bytes budget)

@@ -6,14 +6,14 @@ use mathlib.Core.List.{List, [], _∷_, _++_}
 use Rattle.meaning.specs.Words.{Property}
 use Rattle.meaning.specs.Node.{Verdict, verdict-number}
 use Rattle.meaning.specs.Calls.{Call, fresh, watched, Standing, open-of}
-use Rattle.record_form.specs.Record.{record-answer}
+use Rattle.record_form.specs.Record.{Reader}
 use Rattle.record_form.specs.Record
 use Rattle.record_form.specs.Trace.{Entry, kind-of, action-of, stamp-of, entry-call}
 use Rattle.session_record.specs.declared.Session.{Session}
 use Rattle.session_record.specs.Record.{latest-of}
 use Rattle.printout.specs.Text.{line-text, end-text, stop-text}
 use Rattle.printed.specs.Printed.{one-after}
-use Rattle.demands.specs.Traces.{RefusedWith}
+use Rattle.demands.specs.Traces.{RefusedBy}
 
 -- Decimal digits alone: 48 is "0", 57 is "9".
 unfoldable pub AllDigits : List ℕ → Type 0
@@ -47,7 +47,7 @@ Shows p before number (e ∷ entries) text =
     × Shows p (before ++ entry-call e ∷ []) (one-after number) entries rest
 
 -- "The last line counts the records taken; after a refusal it is `stop`, the count and the refusal number instead."
-abbrev pub LastLine : Session → List ℕ → ℕ → List ℕ → Type 0
-LastLine s bytes count text =
-    ((record-answer bytes (latest-of s) ≡ Record.taken Record.end 0 (latest-of s)) × (text ≡ end-text count))
-    ⊎ ((n : ℕ) × RefusedWith s bytes n × (n ≡ 0 → ⊥) × (text ≡ stop-text count n))
+abbrev pub LastLine : Reader → Session → List ℕ → ℕ → List ℕ → Type 0
+LastLine reader s bytes count text =
+    ((reader bytes (latest-of s) ≡ Record.taken Record.end 0 (latest-of s)) × (text ≡ end-text count))
+    ⊎ ((n : ℕ) × RefusedBy reader s bytes n × (n ≡ 0 → ⊥) × (text ≡ stop-text count n))

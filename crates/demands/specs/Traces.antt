@@ -8,7 +8,7 @@ use lib.Dec.{ltb}
 use Rattle.meaning.specs.Words.{Property, Action}
 use Rattle.meaning.specs.Numbers.{given, first-of}
 use Rattle.meaning.specs.Calls.{Call, Watch, refusal, taken}
-use Rattle.record_form.specs.Record.{record-size, record-answer, read-refusal, written}
+use Rattle.record_form.specs.Record.{Reader, record-size, record-answer, written}
 use Rattle.record_form.specs.Record
 use Rattle.record_form.specs.ReadAs.{ReadAs, read-as}
 use Rattle.record_form.specs.Trace.{Entry, kind-of, action-of, stamp-of, entry-call}
@@ -29,16 +29,22 @@ entry-of (Call.mark m) = Entry.gap (m .stamp)
 abbrev pub calls-of : List Entry → List Call
 calls-of entries = map entry-call entries
 
--- The bytes begin with these records, the first of them "less the stamp before".
-abbrev pub BeginsWith : List ℕ → ℕ → List Entry → Type 0
-BeginsWith s before [] = Unit {0}
-BeginsWith s before (e ∷ entries) =
-    (record-answer s before ≡ Record.taken (kind-of e) (action-of e) (stamp-of e)) × BeginsWith (drop record-size s) (stamp-of e) entries
+-- The bytes begin with these records, as a reader of records of this size reads them, given the stamp before the first.
+abbrev pub BeginsBy : ℕ → Reader → List ℕ → ℕ → List Entry → Type 0
+BeginsBy size reader s before [] = Unit {0}
+BeginsBy size reader s before (e ∷ entries) =
+    (reader s before ≡ Record.taken (kind-of e) (action-of e) (stamp-of e)) × BeginsBy size reader (drop size s) (stamp-of e) entries
 
--- What stands behind so many records.
+abbrev pub BeginsWith : List ℕ → ℕ → List Entry → Type 0
+BeginsWith s before entries = BeginsBy record-size record-answer s before entries
+
+-- What stands behind so many records of this size.
+abbrev pub behind-by : ℕ → List Entry → List ℕ → List ℕ
+behind-by size [] s = s
+behind-by size (e ∷ entries) s = behind-by size entries (drop size s)
+
 abbrev pub behind : List Entry → List ℕ → List ℕ
-behind [] s = s
-behind (e ∷ entries) s = behind entries (drop record-size s)
+behind entries s = behind-by record-size entries s
 
 -- Each of these calls is taken, one after the other.
 abbrev pub TakenOneByOne : Session → List Call → Type 0
@@ -46,10 +52,10 @@ TakenOneByOne s [] = Unit {0}
 TakenOneByOne s (c ∷ calls) = (stepped-of s c .answer .refusal ≡ 0) × TakenOneByOne (stepped-of s c .session) calls
 
 -- The record at the front is refused with this number: by the reader, or as a call on the session.
-abbrev pub RefusedWith : Session → List ℕ → ℕ → Type 0
-RefusedWith s bytes n =
-    (read-refusal bytes (latest-of s) ≡ n)
-    ⊎ ((e : Entry) × (record-answer bytes (latest-of s) ≡ Record.taken (kind-of e) (action-of e) (stamp-of e)) × (stepped-of s (entry-call e) .answer .refusal ≡ n))
+abbrev pub RefusedBy : Reader → Session → List ℕ → ℕ → Type 0
+RefusedBy reader s bytes n =
+    (reader bytes (latest-of s) .refusal ≡ n)
+    ⊎ ((e : Entry) × (reader bytes (latest-of s) ≡ Record.taken (kind-of e) (action-of e) (stamp-of e)) × (stepped-of s (entry-call e) .answer .refusal ≡ n))
 
 -- How a walk stops that has this session and these bytes left, by the number of the way to stop: "when the given number of
 -- records has been taken", none of the budget is left; "at an end record", which is read; "at a refusal", with its number.
@@ -58,7 +64,7 @@ abbrev pub StopsBy : ℕ → (left : ℕ) → Session → List ℕ → (number m
 StopsBy zero left s bytes number more = (left ≡ 0) × (number ≡ 0) × (more ≡ 0)
 StopsBy (suc zero) left s bytes number more =
     (record-answer bytes (latest-of s) ≡ Record.taken Record.end 0 (latest-of s)) × (number ≡ 0) × (more ≡ record-size)
-StopsBy (suc (suc other)) left s bytes number more = RefusedWith s bytes number × (number ≡ 0 → ⊥) × (more ≡ 0)
+StopsBy (suc (suc other)) left s bytes number more = RefusedBy record-answer s bytes number × (number ≡ 0 → ⊥) × (more ≡ 0)
 
 -- "the first refusal met gives its number alone": of the record at the front, by what it stands for and by what the calls before
 -- it have come to; "Bytes behind .. the end record are refusal 8"; `on` is the first refusal met in the bytes behind it.

@@ -1,19 +1,22 @@
-// The printing program but for the place that its input comes from: a packed property and records are read from a descriptor,
-// and the listing is written to standard output. What is written, the crate `printed` says.
+// The printing programs but for the place that the input comes from and the form of its records: a packed property and records
+// are read from a descriptor, and the listing is written to standard output. What is written, the crate `printed` says.
 ghost use Prim.Native.Nat.{_≤_};
 ghost use mathlib.Core.Path.{_≡_};
 ghost use mathlib.Core.Bool.{true};
 ghost use lib.ListN.{length};
 ghost use Rattle.io.specs.Counts.{Counts};
+ghost use Rattle.record_form.specs.Record.{ReadBy};
 ghost use Rattle.table.specs.Table.{IsTable};
 ghost use Rattle.printout.specs.Text.{room};
 ghost use Rattle.session_record.specs.Lent.{in-arrays, Ready};
+ghost use Rattle.listing_shell.specs.Form.{size-of, reader-of, Lists};
 use held::Status;
 use libc::STDOUT_FILENO;
 use printed::Printed;
 use printed::lent::Added;
 use printout::Text;
 use property::Property;
+use record_form::RecordRead;
 use session_record::Session;
 
 pub fn write_front(bytes: &[u8], len: usize) -> bool
@@ -63,9 +66,36 @@ pub fn begun(fd: i32) -> Printed
     printed::begin(&form[..got])
 }
 
+// Which records stand behind the property: document 01's, or the tap card's.
+pub enum Form {
+    Record,
+    Tap,
+}
+
+// The number of bytes of a record.
+fn record_size(form: Form) -> usize
+    ensures { λ r. ⌜ r ≡ size-of form ⌝ }
+{
+    match form {
+        Form::Record => record_form::RECORD_SIZE,
+        Form::Tap => tap_form::TAP_SIZE,
+    }
+}
+
+// The record at the front of the bytes; `before` is the stamp before it.
+fn read_record(form: Form, bytes: &[u8], before: u64) -> RecordRead
+    ensures { λ r. ⌜ ReadBy (reader-of form) (now (bytes .entry)) before r ⌝ }
+{
+    match form {
+        Form::Record => record_form::read_record(bytes, before),
+        Form::Tap => tap_form::read_tap(bytes, before),
+    }
+}
+
 // Reads one record.
 fn next(
     fd: i32,
+    form: Form,
     p: Property,
     table: &[u8; 4257],
     held: &mut [u64; 64],
@@ -76,26 +106,19 @@ fn next(
     count: u64,
 ) -> Added
     requires { ⌜ Ready (in-arrays p (now held) (now acts) (now masks) (now marks) status) × IsTable p (now table) ⌝ }
-    ensures { λ r. ⌜ (r .text .len ≤ room) × Ready (in-arrays p (now (held .exit)) (now (acts .exit)) (now (masks .exit)) (now (marks .exit)) (r .status)) ⌝ }
+    ensures { λ r. ⌜ Lists form (in-arrays p (now (held .entry)) (now (acts .entry)) (now (masks .entry)) (now (marks .entry)) status)
+        count r (in-arrays p (now (held .exit)) (now (acts .exit)) (now (masks .exit)) (now (marks .exit)) (r .status)) ⌝ }
 {
+    let size = record_size(form);
     let mut bytes = [0u8; 6];
-    let got = io::read_full(fd, &mut bytes);
-    printed::lent::record(
-        p,
-        table,
-        held,
-        acts,
-        masks,
-        marks,
-        status,
-        count,
-        &bytes[..got],
-    )
+    let got = io::read_full(fd, &mut bytes[..size]);
+    let read = read_record(form, &bytes[..got], status.latest);
+    printed::lent::record(p, table, held, acts, masks, marks, status, count, read)
 }
 
 // Lists the records. The table is made once, and the arrays are lent from record to record. A proved loop has to end, and
 // nothing says that the input does: the loop counts its turns down, from a number that no run uses up.
-fn records(fd: i32, s: Session)
+fn records(fd: i32, form: Form, s: Session)
     requires { ⌜ Ready s ⌝ }
 {
     let p = s.property;
@@ -112,6 +135,7 @@ fn records(fd: i32, s: Session)
     while turns > 0 {
         let r = next(
             fd,
+            form,
             p,
             &table,
             &mut held,
@@ -131,12 +155,12 @@ fn records(fd: i32, s: Session)
 }
 
 // Lists what comes from the descriptor, up to the end record or a refusal and no further.
-pub fn list(fd: i32) {
+pub fn list(fd: i32, form: Form) {
     if !write(printout::header()) {
         return;
     }
     let b = begun(fd);
     if shown(b.text, b.more) {
-        records(fd, b.session);
+        records(fd, form, b.session);
     }
 }

@@ -13,7 +13,7 @@ fn list_file(i: usize) {
     io::write_all(STDOUT_FILENO, b"== ");
     io::write_all(STDOUT_FILENO, &path[..n]);
     io::write_all(STDOUT_FILENO, b"\n");
-    listing_shell::list(fd);
+    listing_shell::list(fd, listing_shell::Form::Record);
     libc::close(fd);
 }
 

@@ -24,7 +24,7 @@ use Rattle.printout.proofs.Fits.{text-held, line-fits}
 use Rattle.names.proofs.Named.{name-short}
 use Rattle.printed.specs.Listing.{shown}
 use Rattle.printed.specs.declared.Printed.{Printed}
-use Rattle.printed.specs.Printed.{one-after, call-text, last-line, by-one, printed-of}
+use Rattle.printed.specs.Printed.{one-after, call-text, last-line, by-one, printed-by, printed-of}
 use Rattle.named.specs.Named.{names-of, named-call-text, named-by-one}
 use Rattle.named.specs.Insert.{kind-as, action-as, name-as, IsLine}
 use Rattle.named_text.specs.Text.{inserted}
@@ -175,7 +175,7 @@ module _ (s : Session) (count : ℕ) (bytes : List ℕ) where
   took-range false e h = took-by (one-of s bytes) refl e h
 
   took-all : printed-of s count bytes .more ≡ true → Took s count bytes (printed-of s count bytes)
-  unfolding printed-of
+  unfolding printed-by
   took-all h = took-range (out-of-range s) refl h
 
   pub took : (r : Printed) → r ≡ printed-of s count bytes → r .more ≡ true → Took s count bytes r
@@ -194,7 +194,7 @@ module _ (s : Session) (count : ℕ) (bytes : List ℕ) where
 
   last-all : (names : Action → List ℕ) → printed-of s count bytes .more ≡ false
       → shown (printed-of s count bytes .text) ≡ cond (out-of-range s) (stop-text count 10) (named-by-one names count (one-of s bytes))
-  unfolding printed-of
+  unfolding printed-by
   last-all names h = last-range names (out-of-range s) h
 
   pub last-same : (names : Action → List ℕ) (r : Printed) → r ≡ printed-of s count bytes → r .more ≡ false

@@ -9,13 +9,14 @@ use Rattle.meaning.specs.Calls.{Call}
 use Rattle.session_record.specs.declared.Session.{Session}
 use Rattle.session_record.specs.Record.{out-of-range}
 use Rattle.property_form.specs.Read.{read}
-use Rattle.walk.specs.Walk.{One, one-of}
+use Rattle.record_form.specs.ReadAs.{ReadAs}
+use Rattle.walk.specs.Walk.{One, one-read, one-of}
 use Rattle.printout.specs.Text.{room, stop-text}
 use Rattle.printout.proofs.Fits.{text-len, line-fits, end-fits, stop-fits}
 use Rattle.printed.specs.declared.Printed.{Printed}
 use Rattle.printed.specs.declared.lent.Added.{Added}
 use Rattle.printed.specs.Lent.{Adds}
-use Rattle.printed.specs.Printed.{call-text, last-line, by-one, printed-of, opening-text, begun-of}
+use Rattle.printed.specs.Printed.{call-text, last-line, by-one, printed-by, printed-of, opening-text, begun-of}
 
 call-fits : (number : ℕ) (c : Call) (after : Session) → length (call-text number c after) ≤ room
 unfolding call-text
@@ -29,7 +30,7 @@ by-one-fits s count (One.refused n) = text-len _ (stop-fits _ _)
 by-one-fits s count (One.took c after) = text-len _ (call-fits _ _ _)
 
 pub printed-fits : (s : Session) (count : ℕ) (bytes : List ℕ) → printed-of s count bytes .text .len ≤ room
-unfolding printed-of
+unfolding printed-by
 printed-fits s count bytes = go (out-of-range s)
   where
     go : (t : Bool) → cond t (last-line s count (stop-text count 10)) (by-one s count (one-of s bytes)) .text .len ≤ room
@@ -37,8 +38,8 @@ printed-fits s count bytes = go (out-of-range s)
     go false = by-one-fits s count (one-of s bytes)
 
 -- and what a record on lent arrays adds
-pub added-fits : {s after : Session} {count : ℕ} {bytes : List ℕ} {r : Added} → Adds s count bytes r after → r .text .len ≤ room
-added-fits {s} {after} {count} {bytes} h = subst (λ (p : Printed). p .text .len ≤ room) (h .listed) (by-one-fits s count (one-of s bytes))
+pub added-fits : {s after : Session} {count : ℕ} {x : ReadAs} {r : Added} → Adds s count x r after → r .text .len ≤ room
+added-fits {s} {after} {count} {x} h = subst (λ (p : Printed). p .text .len ≤ room) (h .listed) (by-one-fits s count (one-read s x))
 
 opening-fits : (n : ℕ) → length (opening-text n) ≤ room
 opening-fits zero = omega arith

@@ -5,10 +5,8 @@ use mathlib.Core.Bool.{Bool, true, false, cond}
 use mathlib.Core.List.{List, []}
 use Rattle.meaning.specs.Calls.{Call, mark-at, unless-refused}
 use Rattle.property.specs.Meant.{action-of}
-use Rattle.record_form.specs.Record.{gap, IsRead}
-use Rattle.record_form.specs.ReadAs.{ReadAs, case-as}
-use Rattle.record_form.specs.declared.RecordRead.{RecordRead}
-use Rattle.record_form.specs.declared.RecordRead.the-variants.{End, Refused}
+use Rattle.record_form.specs.Record.{Reader, gap}
+use Rattle.record_form.specs.ReadAs.{ReadAs, read-as}
 use Rattle.held.specs.declared.Status.{Status}
 use Rattle.cuts.specs.Arrays.{number-of}
 use Rattle.cuts.specs.Steps.{line-of}
@@ -18,23 +16,31 @@ use Rattle.session_record.specs.declared.Told.{Told}
 use Rattle.session_record.specs.Record.{latest-of, out-of-range}
 use Rattle.session_record.specs.Step.{stepped-of}
 use Rattle.session_record.specs.Lent.{Ready, Advanced}
-use Rattle.walk.specs.Walk.{one-call, try-call, one-read, one-of}
-use Rattle.walk.proofs.Dids.{refused-stays, one-known}
+use Rattle.walk.specs.Walk.{One, one-call, try-call, one-read}
+use Rattle.walk.proofs.Dids.{refused-stays}
 use Rattle.printout.specs.Text.{line-text, end-text, stop-text, text-of}
+use Rattle.printed.specs.declared.Printed.{Printed}
 use Rattle.printed.specs.declared.lent.Added.{Added}
-use Rattle.printed.specs.Printed.{one-after, kind-of, call-text, last-line, by-one, printed-of, opening-text}
+use Rattle.printed.specs.Printed.{one-after, kind-of, call-text, last-line, by-one, printed-by, opening-text}
 use Rattle.printed.specs.Lent.{last-added, call-added, in-session, Adds}
 use Rattle.printed.proofs.Standing.{AsAnswered, line-answered, AsBlind, mark-blind}
 
 -- ---- refusal 10 first
 
-pub named : (s : Session) (count : ℕ) (bytes : List ℕ) → out-of-range s ≡ true → printed-of s count bytes ≡ last-line s count (stop-text count 10)
-unfolding printed-of
-named s count bytes e = ap (λ (t : Bool). cond t (last-line s count (stop-text count 10)) (by-one s count (one-of s bytes))) e
+module _ (reader : Reader) (s : Session) (count : ℕ) (bytes : List ℕ) where
+  abbrev one : One
+  one = one-read s (read-as (reader bytes (latest-of s)))
 
-pub not-named : (s : Session) (count : ℕ) (bytes : List ℕ) → out-of-range s ≡ false → printed-of s count bytes ≡ by-one s count (one-of s bytes)
-unfolding printed-of
-not-named s count bytes e = ap (λ (t : Bool). cond t (last-line s count (stop-text count 10)) (by-one s count (one-of s bytes))) e
+  abbrev by-range : Bool → Printed
+  by-range t = cond t (last-line s count (stop-text count 10)) (by-one s count one)
+
+  pub named : out-of-range s ≡ true → printed-by reader s count bytes ≡ last-line s count (stop-text count 10)
+  unfolding printed-by
+  named e = ap by-range e
+
+  pub not-named : out-of-range s ≡ false → printed-by reader s count bytes ≡ by-one s count one
+  unfolding printed-by
+  not-named e = ap by-range e
 
 -- ---- the property
 
@@ -64,16 +70,16 @@ added-status told count line = go (told .answer .refusal)
     go zero = refl
     go (suc n) = refl
 
-module _ (s : Session) (count : ℕ) (bytes : List ℕ) (r : RecordRead) (h : IsRead bytes (latest-of s) r) where
+module _ (s : Session) (count : ℕ) (x : ReadAs) where
   -- a record that is a call, by the line that is printed if it is taken; `made` is the session of the arrays after it
-  call-adds : (c : Call) (x : RecordRead) → r ≡ x → case-as x ≡ ReadAs.call c → (told : Told) (made : Status → Session) (line : List ℕ) → Advanced s c (told .answer) (made (told .status))
+  call-adds : (c : Call) → x ≡ ReadAs.call c → (told : Told) (made : Status → Session) (line : List ℕ) → Advanced s c (told .answer) (made (told .status))
       → (stepped-of s c .answer .refusal ≡ 0 → line ≡ call-text (one-after count) c (stepped-of s c .session))
-      → (a : Added) → a ≡ call-added told count line → Adds s count bytes a (made (a .status))
-  call-adds c x e k told made line led shows a is =
-      subst (λ (b : Added). Adds s count bytes b (made (b .status))) (sym is)
-      (subst (λ (t : Status). Adds s count bytes (call-added told count line) (made t)) (sym (added-status told count line))
+      → (a : Added) → a ≡ call-added told count line → Adds s count x a (made (a .status))
+  call-adds c k told made line led shows a is =
+      subst (λ (b : Added). Adds s count x b (made (b .status))) (sym is)
+      (subst (λ (t : Status). Adds s count x (call-added told count line) (made t)) (sym (added-status told count line))
       (record {
-        listed = ap (by-one s count) (one-known s bytes r h x e ∙ ap (one-read s) k ∙ tried) ∙ go (stepped-of s c .answer .refusal) refl ∙ ap (λ (n : ℕ). in-session (added n) after) number;
+        listed = ap (by-one s count) (ap (one-read s) k ∙ tried) ∙ go (stepped-of s c .answer .refusal) refl ∙ ap (λ (n : ℕ). in-session (added n) after) number;
         ready = led .ready;
       }))
     where
@@ -96,11 +102,11 @@ module _ (s : Session) (count : ℕ) (bytes : List ℕ) (r : RecordRead) (h : Is
       go zero z = unfold one-call by-one in (λ i. record { text = text-of (sym (shows z) i); session = same i; count = one-after count; more = true })
       go (suc n) z = unfold one-call by-one in (ap (λ (y : Session). last-line y count (stop-text count (suc n))) (sym (refused-stays s c n z) ∙ same))
 
-  pub line-adds : (output : Bool) (action stamp : ℕ) (x : RecordRead) → r ≡ x → case-as x ≡ ReadAs.call (Call.line (line-of output action stamp))
+  pub line-adds : (output : Bool) (action stamp : ℕ) → x ≡ ReadAs.call (Call.line (line-of output action stamp))
       → (told : Told) (made : Status → Session) → Advanced s (Call.line (line-of output action stamp)) (told .answer) (made (told .status))
       → (a : Added) → a ≡ call-added told count (line-text (one-after count) (cond output 1 0) action stamp (told .answer .verdict) (told .answer .open_count))
-      → Adds s count bytes a (made (a .status))
-  line-adds output action stamp x e k told made led = call-adds c x e k told made _ led shows
+      → Adds s count x a (made (a .status))
+  line-adds output action stamp k told made led = call-adds c k told made _ led shows
     where
       c : Call
       c = Call.line (line-of output action stamp)
@@ -117,10 +123,10 @@ module _ (s : Session) (count : ℕ) (bytes : List ℕ) (r : RecordRead) (h : Is
               ((ap (λ (y : Stepped). y .answer .verdict) (sym (led .stepped)) ∙ stands .verdict) i)
               ((ap (λ (y : Stepped). y .answer .open_count) (sym (led .stepped)) ∙ stands .counted) i))
 
-  pub mark-adds : (stamp : ℕ) (x : RecordRead) → r ≡ x → case-as x ≡ ReadAs.call (mark-at stamp)
+  pub mark-adds : (stamp : ℕ) → x ≡ ReadAs.call (mark-at stamp)
       → (told : Told) (made : Status → Session) → Advanced s (mark-at stamp) (told .answer) (made (told .status))
-      → (a : Added) → a ≡ call-added told count (line-text (one-after count) gap 0 stamp 3 0) → Adds s count bytes a (made (a .status))
-  mark-adds stamp x e k told made led = call-adds (mark-at stamp) x e k told made _ led shows
+      → (a : Added) → a ≡ call-added told count (line-text (one-after count) gap 0 stamp 3 0) → Adds s count x a (made (a .status))
+  mark-adds stamp k told made led = call-adds (mark-at stamp) k told made _ led shows
     where
       shows : stepped-of s (mark-at stamp) .answer .refusal ≡ 0
           → line-text (one-after count) gap 0 stamp 3 0 ≡ call-text (one-after count) (mark-at stamp) (stepped-of s (mark-at stamp) .session)
@@ -130,22 +136,22 @@ module _ (s : Session) (count : ℕ) (bytes : List ℕ) (r : RecordRead) (h : Is
 
   -- ---- the last line
 
-  last-adds : Ready s → (made : Status → Session) → made (s .shared .status) ≡ s → (line : List ℕ) → by-one s count (one-of s bytes) ≡ last-line s count line
-      → (a : Added) → a ≡ last-added (s .shared .status) count line → Adds s count bytes a (made (a .status))
+  last-adds : Ready s → (made : Status → Session) → made (s .shared .status) ≡ s → (line : List ℕ) → by-one s count (one-read s x) ≡ last-line s count line
+      → (a : Added) → a ≡ last-added (s .shared .status) count line → Adds s count x a (made (a .status))
   last-adds ready made own line e a is =
-      subst (λ (b : Added). Adds s count bytes b (made (b .status))) (sym is)
-      (subst (Adds s count bytes (last-added (s .shared .status) count line)) (sym own) (record { listed = e; ready = ready }))
+      subst (λ (b : Added). Adds s count x b (made (b .status))) (sym is)
+      (subst (Adds s count x (last-added (s .shared .status) count line)) (sym own) (record { listed = e; ready = ready }))
 
-  pub end-adds : Ready s → (made : Status → Session) → made (s .shared .status) ≡ s → (t : ℕ) → r ≡ End t
-      → (a : Added) → a ≡ last-added (s .shared .status) count (end-text count) → Adds s count bytes a (made (a .status))
-  end-adds ready made own t e = last-adds ready made own (end-text count) (ap (by-one s count) (one-known s bytes r h (End t) e) ∙ shown)
+  pub end-adds : Ready s → (made : Status → Session) → made (s .shared .status) ≡ s → x ≡ ReadAs.end
+      → (a : Added) → a ≡ last-added (s .shared .status) count (end-text count) → Adds s count x a (made (a .status))
+  end-adds ready made own e = last-adds ready made own (end-text count) (ap (λ (y : ReadAs). by-one s count (one-read s y)) e ∙ shown)
     where
       shown : by-one s count (one-read s ReadAs.end) ≡ last-line s count (end-text count)
       shown = unfold one-read by-one in refl
 
-  pub refused-adds : Ready s → (made : Status → Session) → made (s .shared .status) ≡ s → (n : ℕ) → r ≡ Refused n
-      → (a : Added) → a ≡ last-added (s .shared .status) count (stop-text count n) → Adds s count bytes a (made (a .status))
-  refused-adds ready made own n e = last-adds ready made own (stop-text count n) (ap (by-one s count) (one-known s bytes r h (Refused n) e) ∙ shown)
+  pub refused-adds : Ready s → (made : Status → Session) → made (s .shared .status) ≡ s → (n : ℕ) → x ≡ ReadAs.refused n
+      → (a : Added) → a ≡ last-added (s .shared .status) count (stop-text count n) → Adds s count x a (made (a .status))
+  refused-adds ready made own n e = last-adds ready made own (stop-text count n) (ap (λ (y : ReadAs). by-one s count (one-read s y)) e ∙ shown)
     where
       shown : by-one s count (one-read s (ReadAs.refused n)) ≡ last-line s count (stop-text count n)
       shown = unfold one-read by-one in refl

@@ -35,29 +35,26 @@ module _ (s : Session) (fits : out-of-range s ≡ false) (count : ℕ) where
   same-call c zero e = took (ap (λ (r : Stepped). by-one s count (One.took c (r .session))) (sym (tidied-taken s fits c e))) refl
   same-call c (suc n) e = none refl refl
 
-  pub same-listed : (bytes : List ℕ) → Same (by-one s count (one-of s bytes)) (by-one (tidied s) count (one-of (tidied s) bytes))
-  same-listed bytes = go (read-as (record-answer bytes (latest-of s)))
-    where
-      go : (x : ReadAs) → Same (by-one s count (one-read s x)) (by-one (tidied s) count (one-read (tidied s) x))
-      go (ReadAs.call c) =
-          unfold one-read in
-          (subst (λ (n : ℕ). Same (by-one s count (one-call s c n)) (by-one (tidied s) count (one-call (tidied s) c (stepped-of (tidied s) c .answer .refusal)))) (sym (answer-refusal s c))
-          (subst (λ (n : ℕ). Same (by-one s count (one-call s c (refusal-of s c))) (by-one (tidied s) count (one-call (tidied s) c n)))
-          (sym (answer-refusal (tidied s) c ∙ tidied-refusal s fits c))
-          (same-call c (refusal-of s c) refl)))
-      go ReadAs.end = unfold one-read by-one in (none refl refl)
-      go (ReadAs.refused n) = unfold one-read by-one in (none refl refl)
+  pub same-listed : (x : ReadAs) → Same (by-one s count (one-read s x)) (by-one (tidied s) count (one-read (tidied s) x))
+  same-listed (ReadAs.call c) =
+      unfold one-read in
+      (subst (λ (n : ℕ). Same (by-one s count (one-call s c n)) (by-one (tidied s) count (one-call (tidied s) c (stepped-of (tidied s) c .answer .refusal)))) (sym (answer-refusal s c))
+      (subst (λ (n : ℕ). Same (by-one s count (one-call s c (refusal-of s c))) (by-one (tidied s) count (one-call (tidied s) c n)))
+      (sym (answer-refusal (tidied s) c ∙ tidied-refusal s fits c))
+      (same-call c (refusal-of s c) refl)))
+  same-listed ReadAs.end = unfold one-read by-one in (none refl refl)
+  same-listed (ReadAs.refused n) = unfold one-read by-one in (none refl refl)
 
   -- the record by value, from the one on the tidied arrays
-  module _ (bytes : List ℕ) (r : Added) (after : Session) (adds : Adds (tidied s) count bytes r after) where
+  module _ (bytes : List ℕ) (r : Added) (after : Session) (adds : Adds (tidied s) count (read-as (record-answer bytes (latest-of s))) r after) where
     by-same : (w : Printed) → Same (by-one s count (one-of s bytes)) w
         → (w .more ≡ true → w ≡ printed-of s count bytes)
         × (w .more ≡ false → record { text = w .text; session = s; count = w .count; more = false } ≡ printed-of s count bytes)
-    by-same w (took e m) = ((λ z. sym e ∙ sym (not-named s count bytes fits)), (λ z. no (sym z ∙ m)))
-    by-same w (none e m) = ((λ z. no (sym m ∙ z)), (λ z. sym e ∙ sym (not-named s count bytes fits)))
+    by-same w (took e m) = ((λ z. sym e ∙ sym (not-named record-answer s count bytes fits)), (λ z. no (sym z ∙ m)))
+    by-same w (none e m) = ((λ z. no (sym m ∙ z)), (λ z. sym e ∙ sym (not-named record-answer s count bytes fits)))
 
     by-value : Same (by-one s count (one-of s bytes)) (in-session r after)
-    by-value = subst (Same (by-one s count (one-of s bytes))) (adds .listed) (same-listed bytes)
+    by-value = subst (Same (by-one s count (one-of s bytes))) (adds .listed) (same-listed (read-as (record-answer bytes (latest-of s))))
 
     pub by-value-more : r .more ≡ true → _≡_ {A = Printed} (record { text = r .text; session = after; count = r .count; more = true }) (printed-of s count bytes)
     by-value-more z =

@@ -12,7 +12,7 @@ use Rattle.meaning.proofs.Refusals.{first-of-none}
 use Rattle.property.specs.Meant.{meant}
 use Rattle.property.specs.declared.Property.{Property}
 use Rattle.property_form.specs.Read.{read, read-refusal, property-read, answer, too-short, pad-broken}
-use Rattle.record_form.specs.Record.{record-size}
+use Rattle.record_form.specs.Record.{record-size, record-answer}
 use Rattle.session_record.specs.declared.Session.{Session}
 use Rattle.session_record.specs.Record.{out-of-range}
 use Rattle.session_record.specs.Step.{fresh-of}
@@ -26,7 +26,7 @@ use Rattle.walk.specs.Walk.{One, one-of, stopped, walked-by, walk-on, walk-of}
 use Rattle.walk.proofs.Steps.{IsStep, one-step}
 use Rattle.printout.specs.Text.{stop-text}
 use Rattle.printed.specs.declared.Printed.{Printed}
-use Rattle.printed.specs.Printed.{last-line, by-one, printed-of, begun-of}
+use Rattle.printed.specs.Printed.{last-line, by-one, printed-by, printed-of, begun-of}
 use Rattle.printed.proofs.Listed.{not-named}
 use Rattle.printed.proofs.Tidied.{no}
 
@@ -37,7 +37,7 @@ pub record AsWalked (s : Session) (count : ℕ) (bytes : List ℕ) : Type 0 wher
 
 pub as-walked : (s : Session) (count : ℕ) (bytes : List ℕ) → AsWalked s count bytes
 as-walked s count bytes =
-    record { session = unfold printed-of walk-of in (same-session (out-of-range s)); more = unfold printed-of walk-of in (same-more (out-of-range s)) }
+    record { session = unfold printed-by walk-of in (same-session (out-of-range s)); more = unfold printed-by walk-of in (same-more (out-of-range s)) }
   where
     one-session : (o : One) → by-one s count o .session ≡ walked-by o s (λ after. walk-on 0 after (drop record-size bytes)) .session
     one-session One.ended = unfold by-one walked-by in refl
@@ -82,8 +82,8 @@ StepOf s (One.took c after) = IsStep s c after
 -- A record that was taken leaves a session that refusal 10 does not name.
 pub stays-listed : (s : Session) (count : ℕ) (bytes : List ℕ) → out-of-range s ≡ false → printed-of s count bytes .more ≡ true → out-of-range (printed-of s count bytes .session) ≡ false
 stays-listed s count bytes e m =
-    ap (λ (r : Printed). out-of-range (r .session)) (not-named s count bytes e)
-    ∙ after (one-of s bytes) (one-step s bytes) (ap (λ (r : Printed). r .more) (sym (not-named s count bytes e)) ∙ m)
+    ap (λ (r : Printed). out-of-range (r .session)) (not-named record-answer s count bytes e)
+    ∙ after (one-of s bytes) (one-step s bytes) (ap (λ (r : Printed). r .more) (sym (not-named record-answer s count bytes e)) ∙ m)
   where
     after : (o : One) → StepOf s o → by-one s count o .more ≡ true → out-of-range (by-one s count o .session) ≡ false
     after One.ended k q = no (unfold by-one in q)

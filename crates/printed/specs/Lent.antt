@@ -4,11 +4,12 @@ use mathlib.Core.Path.{_≡_}
 use mathlib.Core.Bool.{true, false}
 use mathlib.Core.List.{List}
 use Rattle.meaning.specs.Calls.{unless-refused}
+use Rattle.record_form.specs.ReadAs.{ReadAs}
 use Rattle.held.specs.declared.Status.{Status}
 use Rattle.session_record.specs.declared.Session.{Session}
 use Rattle.session_record.specs.declared.Told.{Told}
 use Rattle.session_record.specs.Lent.{Ready}
-use Rattle.walk.specs.Walk.{one-of}
+use Rattle.walk.specs.Walk.{one-read}
 use Rattle.printout.specs.Text.{stop-text, text-of}
 use Rattle.printed.specs.declared.Printed.{Printed}
 use Rattle.printed.specs.declared.lent.Added.{Added}
@@ -29,7 +30,7 @@ call-added r count line =
 abbrev pub in-session : Added → Session → Printed
 in-session r after = record { text = r .text; session = after; count = r .count; more = r .more }
 
--- The record at the front of the bytes adds this and leads to a session from which the next record can start.
-pub record Adds (s : Session) (count : ℕ) (bytes : List ℕ) (r : Added) (after : Session) : Type 0 where
-  pub listed : by-one s count (one-of s bytes) ≡ in-session r after
+-- A record that stands for x adds this and leads to a session from which the next record can start.
+pub record Adds (s : Session) (count : ℕ) (x : ReadAs) (r : Added) (after : Session) : Type 0 where
+  pub listed : by-one s count (one-read s x) ≡ in-session r after
   pub ready : Ready after

@@ -1,15 +1,15 @@
--- Document 01, case 15: the whole listing that the printing program writes.
+-- Document 01, case 15: the whole listing that the printing program writes, for any reader of records of a size.
 use Prim.Native.Nat.{ℕ, zero, suc}
 use mathlib.Core.Bool.{cond}
 use mathlib.Core.List.{List, [], _∷_, _++_}
 use lib.ListN.{length, take, drop}
 use Rattle.meaning.specs.Calls.{Call}
-use Rattle.record_form.specs.Record.{record-size}
+use Rattle.record_form.specs.Record.{Reader, record-size, record-answer}
 use Rattle.session_record.specs.declared.Session.{Session}
 use Rattle.printout.specs.declared.Text.{Text}
 use Rattle.printout.specs.Text.{header-text}
 use Rattle.printed.specs.declared.Printed.{Printed}
-use Rattle.printed.specs.Printed.{one-after, printed-of, begun-of}
+use Rattle.printed.specs.Printed.{one-after, printed-by, begun-of}
 
 -- The bytes of a text.
 abbrev pub shown : Text → List ℕ
@@ -20,20 +20,30 @@ abbrev pub and-more : Printed → List ℕ → List ℕ
 and-more r rest = shown (r .text) ++ cond (r .more) rest []
 
 -- What at most so many records add, after `count` that were taken: as many bytes as a record has are read at a time.
-unfoldable pub lines-of : ℕ → Session → ℕ → List ℕ → List ℕ
-lines-of zero s count bytes = []
-lines-of (suc most) s count bytes =
-    and-more (printed-of s count (take record-size bytes))
-    (lines-of most (printed-of s count (take record-size bytes) .session) (printed-of s count (take record-size bytes) .count) (drop record-size bytes))
+unfoldable pub lines-by : (size : ℕ) → Reader → ℕ → Session → ℕ → List ℕ → List ℕ
+lines-by size reader zero s count bytes = []
+lines-by size reader (suc most) s count bytes =
+    and-more (printed-by reader s count (take size bytes))
+    (lines-by size reader most (printed-by reader s count (take size bytes) .session) (printed-by reader s count (take size bytes) .count) (drop size bytes))
 
 -- What all records add: there are fewer than bytes, or none.
-abbrev pub records-text : Session → ℕ → List ℕ → List ℕ
-records-text s count bytes = lines-of (suc (length bytes)) s count bytes
+abbrev pub records-by : (size : ℕ) → Reader → Session → ℕ → List ℕ → List ℕ
+records-by size reader s count bytes = lines-by size reader (suc (length bytes)) s count bytes
 
 -- The listing of the bytes of a property and of those of the records behind it.
-unfoldable pub listing-of : List ℕ → List ℕ → List ℕ
-listing-of property records =
-    header-text ++ and-more (begun-of property) (records-text (begun-of property .session) (begun-of property .count) records)
+unfoldable pub listing-by : (size : ℕ) → Reader → List ℕ → List ℕ → List ℕ
+listing-by size reader property records =
+    header-text ++ and-more (begun-of property) (records-by size reader (begun-of property .session) (begun-of property .count) records)
+
+-- The same of document 01's records.
+abbrev pub lines-of : ℕ → Session → ℕ → List ℕ → List ℕ
+lines-of most s count bytes = lines-by record-size record-answer most s count bytes
+
+abbrev pub records-text : Session → ℕ → List ℕ → List ℕ
+records-text s count bytes = records-by record-size record-answer s count bytes
+
+abbrev pub listing-of : List ℕ → List ℕ → List ℕ
+listing-of property records = listing-by record-size record-answer property records
 
 -- The count after these calls.
 unfoldable pub count-after : ℕ → List Call → ℕ

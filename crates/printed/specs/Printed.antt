@@ -6,12 +6,13 @@ use lib.Dec.{eqb}
 use Rattle.meaning.specs.Words.{Action}
 use Rattle.meaning.specs.Calls.{Call}
 use Rattle.property_form.specs.Read.{read}
-use Rattle.record_form.specs.Record.{input, output, gap}
+use Rattle.record_form.specs.Record.{Reader, record-answer, input, output, gap}
+use Rattle.record_form.specs.ReadAs.{read-as}
 use Rattle.cuts.specs.Arrays.{number-of}
 use Rattle.session_record.specs.declared.Session.{Session}
-use Rattle.session_record.specs.Record.{count-of, out-of-range}
+use Rattle.session_record.specs.Record.{count-of, latest-of, out-of-range}
 use Rattle.session_record.specs.Step.{fresh-of, standing}
-use Rattle.walk.specs.Walk.{One, one-of}
+use Rattle.walk.specs.Walk.{One, one-read}
 use Rattle.printout.specs.Text.{line-text, end-text, stop-text, text-of}
 use Rattle.printed.specs.declared.Printed.{Printed}
 
@@ -43,9 +44,15 @@ by-one s count (One.refused n) = last-line s count (stop-text count n)
 by-one s count (One.took c after) =
     record { text = text-of (call-text (one-after count) c after); session = after; count = one-after count; more = true }
 
--- What the record at the front of the bytes adds, after so many that were taken. As in a walk, refusal 10 comes first.
-unfoldable pub printed-of : Session → ℕ → List ℕ → Printed
-printed-of s count bytes = cond (out-of-range s) (last-line s count (stop-text count 10)) (by-one s count (one-of s bytes))
+-- What the record that a reader reads from the front of the bytes adds, after so many that were taken. As in a walk, refusal 10
+-- comes first, and the stamp before is the session's latest.
+unfoldable pub printed-by : Reader → Session → ℕ → List ℕ → Printed
+printed-by reader s count bytes =
+    cond (out-of-range s) (last-line s count (stop-text count 10)) (by-one s count (one-read s (read-as (reader bytes (latest-of s)))))
+
+-- by document 01's record reader
+abbrev pub printed-of : Session → ℕ → List ℕ → Printed
+printed-of s count bytes = printed-by record-answer s count bytes
 
 -- "A refused property prints the header and `stop 0` with its number"; one that is taken, the header alone.
 abbrev pub opening-text : ℕ → List ℕ

@@ -3,6 +3,7 @@ ghost use mathlib.Core.Path.{_≡_};
 ghost use mathlib.Core.Bool.{cond};
 ghost use Rattle.table.specs.Table.{IsTable};
 ghost use Rattle.record_form.specs.Record.{gap};
+ghost use Rattle.record_form.specs.ReadAs.{case-as};
 ghost use Rattle.session_record.specs.Lent.{in-arrays, Ready};
 ghost use Rattle.printout.specs.Text.{line-text, end-text, stop-text};
 ghost use Rattle.printed.specs.Printed.{one-after};
@@ -99,7 +100,7 @@ fn on_mark(told: Told, count: u64, stamp: u64) -> Added
     }
 }
 
-// The record at the front of the bytes, after `count` that were taken.
+// A record as it was read, after `count` that were taken.
 pub fn record(
     p: Property,
     table: &[u8; 4257],
@@ -109,13 +110,12 @@ pub fn record(
     marks: &mut [u64; 65],
     status: Status,
     count: u64,
-    bytes: &[u8],
+    read: RecordRead,
 ) -> Added
     requires { ⌜ Ready (in-arrays p (now held) (now acts) (now masks) (now marks) status) × IsTable p (now table) ⌝ }
     ensures { λ r. ⌜ Adds (in-arrays p (now (held .entry)) (now (acts .entry)) (now (masks .entry)) (now (marks .entry)) status)
-        count (now (bytes .entry)) r (in-arrays p (now (held .exit)) (now (acts .exit)) (now (masks .exit)) (now (marks .exit)) (r .status)) ⌝ }
+        count (case-as read) r (in-arrays p (now (held .exit)) (now (acts .exit)) (now (masks .exit)) (now (marks .exit)) (r .status)) ⌝ }
 {
-    let read = record_form::read_record(bytes, status.latest);
     match read {
         RecordRead::Input(action, stamp) => {
             let r = in_place::line(

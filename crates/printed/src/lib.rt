@@ -43,6 +43,7 @@ pub fn record(s: Session, count: u64, bytes: &[u8]) -> Printed
     let mut marks = row.marks;
     let status = shared.status;
     in_place::tidy(p, &mut held, &mut acts, &mut masks, &mut marks, status);
+    let read = record_form::read_record(bytes, status.latest);
     let r = lent::record(
         p,
         &table,
@@ -52,7 +53,7 @@ pub fn record(s: Session, count: u64, bytes: &[u8]) -> Printed
         &mut marks,
         status,
         count,
-        bytes,
+        read,
     );
     let text = r.text;
     if r.more {

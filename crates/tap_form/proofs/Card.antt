@@ -8,15 +8,15 @@ use native.Mathlib.Omega.{arith}
 use lib.ListN.{length, take, drop, length-append, take-append-drop}
 use lib.Dec.{eqb, lit≤}
 use lib.Seq.{drop-at}
-use borrow.Author.Tests.{eqb-true, not-false}
+use borrow.Author.Tests.{eq-eqb, eqb-true, not-false}
 use Rattle.meaning.specs.Limits.{last-stamp, last-action}
 use Rattle.fields.specs.Fields.{field}
-use Rattle.record_form.specs.Record
 use Rattle.record_form.specs.Record.{Bytes, RecordAnswer, end, taken, answered, broken, stamp-above}
-use Rattle.record_form.specs.Trace.{Entry, kind-of, action-of, stamp-of}
-use Rattle.record_form.proofs.Rules.{none-past, within}
+use Rattle.record_form.specs.Trace.{Entry, kind-of, action-of, stamp-of, CanBeWritten}
+use Rattle.record_form.proofs.Rules.{none-past, within, broken-end}
 use Rattle.record_form.proofs.Parts.{three-form, length-form-three, form-kind, form-action, form-third}
 use Rattle.record_form.proofs.Reading.{field-lt, unbroken}
+use Rattle.record_form.proofs.RoundTrip.{write-none}
 use Rattle.record_form.proofs.Trace.{Bytes-drop}
 use Rattle.tap_form.specs.Tap.{counter-at, since, tap-stamp, tap-fields-refusal, tap-answer, tap-form}
 use Rattle.tap_form.specs.Card.{card-form, CardCanSay, TapTakenAs}
@@ -148,3 +148,24 @@ card-writes-back s before (e ∷ trace) b h =
 pub card-one-packing : (s t : List ℕ) (before : ℕ) (trace : List Entry) → Bytes s → Bytes t → TapTakenAs s before trace → TapTakenAs t before trace → s ≡ t
 card-one-packing s t before trace bs bt hs ht =
     card-writes-back s before trace bs hs .0 ∙ sym (card-writes-back t before trace bt ht .0)
+
+-- What the card can say document 01's writer writes.
+pub card-can-be-written : (before : ℕ) (trace : List Entry) → before ≤ last-stamp → CardCanSay before trace → CanBeWritten before trace
+card-can-be-written before [] b can =
+    write-none (record {
+      sound = broken-end end 0 _ refl ∙ ap not (eq-eqb before before refl);
+      action-fits = lit≤ tt;
+      in-range = none-past before before b b;
+      not-below = omega arith;
+      fits = lit≤ tt;
+    })
+card-can-be-written before (e ∷ trace) b can = (
+  write-none (record {
+    sound = line-kind e .1 _;
+    action-fits = can .3;
+    in-range = none-past (stamp-of e) before (can .2) b;
+    not-below = can .0;
+    fits = lit≤ tt;
+  }),
+  card-can-be-written (stamp-of e) trace (can .2) (can .4),
+)

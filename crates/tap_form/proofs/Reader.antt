@@ -1,11 +1,11 @@
 -- What walks and listings use of a reader of records, the card's reader has.
 use Prim.Native.Nat.{ℕ}
-use mathlib.Core.Path.{_≡_, sym, _∙_, ap}
+use mathlib.Core.Path.{_≡_}
 use mathlib.Core.List.{List}
 use lib.Dec.{lit≤}
 use lib.ListN.{take}
 use Rattle.meaning.specs.Numbers.{given, first-of}
-use Rattle.record_form.specs.Record.{end, answered, taken}
+use Rattle.record_form.specs.Record.{answered, taken}
 use Rattle.record_form.proofs.Reader.{Reads, front-same}
 use Rattle.tap_form.specs.Tap.{tap-size, tap-stamp, tap-fields-refusal, tap-refusal, tap-answer}
 use Rattle.tap_form.proofs.Reading.{tap-short, tap-always-read, tap-end}

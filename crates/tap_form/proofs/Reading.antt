@@ -106,7 +106,7 @@ module _ (s : List ℕ) (before : ℕ) where
       let q = none-first 7 _ (p .1) in
       record { size = ltb-false _ _ (p .0); sound = q .0; in-range = given-none 3 _ (q .1) }
 
-  tap-taken : tap-refusal s before ≡ 0 → tap-answer s before ≡ taken (field s 0 2) (field s 2 6) (tap-stamp (field s 0 2) (field s 8 32) before)
+  pub tap-taken : tap-refusal s before ≡ 0 → tap-answer s before ≡ taken (field s 0 2) (field s 2 6) (tap-stamp (field s 0 2) (field s 8 32) before)
   unfolding tap-answer answered
   tap-taken e = rw e
 

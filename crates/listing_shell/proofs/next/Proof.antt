@@ -1,34 +1,75 @@
 -- `listing_shell::next` meets its contract: what a record adds fits its room, and the arrays are ready for the next one.
-use Rattle.printed.proofs.Fits.{added-fits}
+use Prim.Native.Nat.{ℕ, _≤_}
+use mathlib.Core.Path.{_≡_}
+use native.Mathlib.Omega.{arith}
+use lib.ListN.{length-append}
+use Rattle.io.proofs.Counting.{counts}
+use denote.Ref.{now}
+use Rattle.session_record.specs.declared.Session.{Session}
+use Rattle.session_record.specs.Lent.{in-arrays}
+use Rattle.listing_shell.specs.declared.Form.{Form}
+use Rattle.listing_shell.specs.declared.Form.the-variants.{Record, Tap}
+use Rattle.listing_shell.specs.Form.{size-of}
+use Rattle.listing_shell.proofs.Listed.{front-few, lists}
 use borrow.Author.Needs.{needs}
 use Rattle.listing_shell.proofs.next.Statement.{statement}
 use Rattle.listing_shell.proofs.next.Tie as tie
 
+abbrev start : tie.After-record → tie.Start
+start c = c .before .before .before .before .before .before .before .before .before .before .before
+
+-- the record that the arrays make up at the entry
+abbrev entry : tie.After-record → Session
+entry c =
+    let a = start c .args in
+    in-arrays (a .p) (now (a .held)) (now (a .acts)) (now (a .masks)) (now (a .marks)) (a .status)
+
+-- a record of either form fits six bytes
+fits : (n : ℕ) (form : Form) → n ≡ size-of form → n ≤ 6
+fits n Record e = omega arith
+fits n Tap e = omega arith
+
+record-size-requires : tie.Need-record-size-requires
+record-size-requires c κs = search needs
+
+array-borrow-prefix-bytes : tie.Need-array-borrow-prefix-bytes
+array-borrow-prefix-bytes c = fits _ (c .before .args .form) (c .record-size .ensures)
+
 slice-aggregate-read-full : tie.Need-slice-aggregate-read-full
-slice-aggregate-read-full c = search needs
+slice-aggregate-read-full c = counts _ _ (array-borrow-prefix-bytes (c .before)) .1
 
 read-full-requires : tie.Need-read-full-requires
 read-full-requires c κs = search needs
 
 array-share-prefix-bytes : tie.Need-array-share-prefix-bytes
-array-share-prefix-bytes c = search needs
+array-share-prefix-bytes c = simp length-append (omega (arith, c .before .read-full .ensures .0))
 
-slice-aggregate-record : tie.Need-slice-aggregate-record
-slice-aggregate-record c = search needs
+slice-aggregate-read-record : tie.Need-slice-aggregate-read-record
+slice-aggregate-read-record c = counts _ _ (array-share-prefix-bytes (c .before)) .1
+
+read-record-requires : tie.Need-read-record-requires
+read-record-requires c κs = search needs
 
 record-requires : tie.Need-record-requires
 record-requires c κs = search needs
 
 returns : tie.Need-returns
-returns c = (added-fits (c .«record» .ensures), c .«record» .ensures .ready)
+returns c =
+    let got = c .before .before .before .before .before .before .before .before in
+    lists (start c .args .form) (entry c) (c .before .before .before .before .before .read-record .ensures)
+    (front-few (got .read-full .result) _ _ (omega (arith, got .read-full .ensures .0, got .read-full .kept .1 .0, slice-aggregate-read-full (got .before), got .before .before .record-size .ensures)))
+    (c .«record» .ensures)
 
 pub next-spec : {M : Type 1} → statement M
 next-spec =
     tie.close
     (tie.spec
+    record-size-requires
+    array-borrow-prefix-bytes
     slice-aggregate-read-full
     read-full-requires
     array-share-prefix-bytes
-    slice-aggregate-record
+    slice-aggregate-read-record
+    read-record-requires
     record-requires
     returns)

@@ -2,15 +2,16 @@
 use native.Mathlib.Omega.{arith}
 use Rattle.session_record.specs.Lent.{in-arrays, Ready}
 use Rattle.session_record.proofs.Range.{ranged}
+use Rattle.printed.proofs.Fits.{added-fits}
 use Rattle.listing_shell.proofs.records.Statement.{statement}
 use Rattle.listing_shell.proofs.records.Tie as tie
 
 abbrev Inv-loop : tie.InvT-loop
-Inv-loop fd p table held₀ acts₀ masks₀ marks₀ status₀ count₀ turns₀ held acts masks marks status count turns =
+Inv-loop fd form p table held₀ acts₀ masks₀ marks₀ status₀ count₀ turns₀ held acts masks marks status count turns =
     Ready (in-arrays p held acts masks marks status)
 
 abbrev μ-loop : tie.MeasureT-loop
-μ-loop fd p table held₀ acts₀ masks₀ marks₀ status₀ count₀ turns₀ held acts masks marks status count turns =
+μ-loop fd form p table held₀ acts₀ masks₀ marks₀ status₀ count₀ turns₀ held acts masks marks status count turns =
     turns
 
 table-requires : tie.Need-table-requires Inv-loop μ-loop
@@ -23,7 +24,7 @@ next-requires : tie.Need-next-requires Inv-loop μ-loop
 next-requires c κs = (c .before .before .before .before .before .before .loop .inv, c .before .before .before .before .before .before .before .before .before .before .before .before .table .ensures)
 
 shown-requires : tie.Need-shown-requires Inv-loop μ-loop
-shown-requires c κs = c .next .ensures .0
+shown-requires c κs = added-fits (c .next .ensures .adds)
 
 returns : tie.Need-returns Inv-loop μ-loop
 returns c = tt
@@ -35,7 +36,7 @@ loop-less : tie.Need-loop-less Inv-loop μ-loop
 loop-less c = omega arith
 
 loop-again : tie.Need-loop-again Inv-loop μ-loop
-loop-again c = c .before .before .before .next .ensures .1
+loop-again c = c .before .before .before .next .ensures .adds .ready
 
 returns-2 : tie.Need-returns-2 Inv-loop μ-loop
 returns-2 c = tt

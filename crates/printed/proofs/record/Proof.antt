@@ -4,8 +4,11 @@ use mathlib.Core.Path.{_≡_, sym, ap, subst, _∙_}
 use mathlib.Core.Bool.{true, false}
 use mathlib.Core.List.{List}
 use denote.Ref.{now}
+use Rattle.record_form.specs.Record.{record-answer}
+use Rattle.record_form.specs.ReadAs.{ReadAs, case-as, read-as}
+use Rattle.record_form.proofs.ReadAs.{read-case}
 use Rattle.session_record.specs.declared.Session.{Session}
-use Rattle.session_record.specs.Record.{out-of-range}
+use Rattle.session_record.specs.Record.{latest-of, out-of-range}
 use Rattle.session_record.specs.Lent.{in-arrays, tidied, Ready}
 use Rattle.session_record.proofs.Range.{ranged}
 use Rattle.session_record.proofs.Ready.{tidied-ready}
@@ -34,17 +37,23 @@ count j = passed j .before .before .before .args .count
 abbrev bytes : tie.After-tidy → List ℕ
 bytes j = now (passed j .before .before .before .args .bytes)
 
--- from the record on lent arrays back to the tidied ones, and the session after it
+-- from the record on lent arrays back to what was read and to the tidied arrays, and the session after it
+abbrev reading : tie.After-record → tie.After-read-record
+reading k = k .before .before .before .before .before .before
+
 abbrev start : tie.After-record → tie.After-tidy
-start k = k .before .before .before .before .before .before
+start k = reading k .before
 
 abbrev after : tie.After-record → Session
 after k =
     let last = k .«record» .last .1 .1 in
     in-arrays (given (start k) .property) (last .0) (last .1 .0) (last .1 .1 .0) (last .1 .1 .1 .0) (k .«record» .result .status)
 
-adds : (k : tie.After-record) → Adds (tidied (given (start k))) (count (start k)) (bytes (start k)) (k .«record» .result) (after k)
-adds k = subst (λ (x : Session). Adds x (count (start k)) (bytes (start k)) (k .«record» .result) (after k)) (start k .tidy .ensures) (k .«record» .ensures)
+adds : (k : tie.After-record)
+    → Adds (tidied (given (start k))) (count (start k)) (read-as (record-answer (bytes (start k)) (latest-of (given (start k))))) (k .«record» .result) (after k)
+adds k =
+    subst (λ (x : ReadAs). Adds (tidied (given (start k))) (count (start k)) x (k .«record» .result) (after k)) (sym (read-case (reading k .read-record .ensures)))
+    (subst (λ (x : Session). Adds x (count (start k)) (case-as (reading k .read-record .result)) (k .«record» .result) (after k)) (start k .tidy .ensures) (k .«record» .ensures))
 
 unfit-requires : tie.Need-unfit-requires
 unfit-requires c κs = search needs
@@ -57,7 +66,7 @@ returns c =
     let e = c .before in
     let a = e .before .before .before .args in
     ap (λ (t : Text). record { text = t; session = a .s; count = a .count; more = false }) (c .stop .ensures)
-    ∙ sym (named (a .s) (a .count) (now (a .bytes)) (sym (e .before .unfit .ensures) ∙ e .if1 .taken))
+    ∙ sym (named record-answer (a .s) (a .count) (now (a .bytes)) (sym (e .before .unfit .ensures) ∙ e .if1 .taken))
 
 table-requires : tie.Need-table-requires
 table-requires c κs =
@@ -69,9 +78,12 @@ tidy-requires c κs = (
   fit (c .before .before .before .before .before .before .before .before .before .before .before .before .before),
 )
 
+read-record-requires : tie.Need-read-record-requires
+read-record-requires c κs = search needs
+
 record-requires : tie.Need-record-requires
 record-requires c κs =
-    let j = c .before .before .before .before .before in
+    let j = c .before .before .before .before .before .before in
     (subst Ready (sym (j .tidy .ensures)) (tidied-ready (given j) (fit (passed j))), j .before .before .before .before .before .before .before .before .before .before .table .ensures)
 
 made-requires : tie.Need-made-requires
@@ -98,6 +110,7 @@ record-spec =
     returns
     table-requires
     tidy-requires
+    read-record-requires
     record-requires
     made-requires
     returns-2

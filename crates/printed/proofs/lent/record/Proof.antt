@@ -1,7 +1,8 @@
--- `printed::lent::record` meets its contract: what the reader answers, kind by kind.
-use mathlib.Core.Path.{refl}
+-- `printed::lent::record` meets its contract: what was read, kind by kind.
+use mathlib.Core.Path.{refl, ap}
 use mathlib.Core.Bool.{true, false}
 use denote.Ref.{now}
+use Rattle.record_form.specs.ReadAs.{case-as}
 use Rattle.held.specs.declared.Status.{Status}
 use Rattle.session_record.specs.declared.Session.{Session}
 use Rattle.session_record.specs.Lent.{in-arrays}
@@ -16,9 +17,6 @@ as-lent b = in-arrays (b .args .p) (now (b .args .held)) (now (b .args .acts)) (
 
 abbrev entry : tie.Start → Session
 entry b = as-lent b (b .args .status)
-
-read-record-requires : tie.Need-read-record-requires
-read-record-requires c κs = search needs
 
 enum-known-read : tie.Need-enum-known-read
 enum-known-read c = search needs
@@ -61,51 +59,45 @@ stopped-requires c κs = search needs
 
 returns : tie.Need-returns
 returns c =
-    let k = c .before .before .before .before .before .before .before .before .before in
-    let a = k .before .before .args in
+    let b = c .before .before .before .before .before .before .before .before .before in
     let last = c .before .line .last .1 .1 in
-    line-adds (entry (k .before .before)) (a .count) (now (a .bytes)) (k .read-record .result) (k .read-record .ensures) false _ _ _ (c .before .before .before .before .before .before .before .read .given .1) refl
+    line-adds (entry b) (b .args .count) _ false _ _ (ap case-as (c .before .before .before .before .before .before .before .read .given .1))
     (c .before .line .result)
-    (in-arrays (a .p) (last .0) (last .1 .0) (last .1 .1 .0) (last .1 .1 .1 .0))
+    (in-arrays (b .args .p) (last .0) (last .1 .0) (last .1 .1 .0) (last .1 .1 .1 .0))
     (c .before .line .ensures) _ (c .on-line .ensures)
 
 returns-2 : tie.Need-returns-2
 returns-2 c =
-    let k = c .before .before .before .before .before .before .before .before .before in
-    let a = k .before .before .args in
+    let b = c .before .before .before .before .before .before .before .before .before in
     let last = c .before .line2 .last .1 .1 in
-    line-adds (entry (k .before .before)) (a .count) (now (a .bytes)) (k .read-record .result) (k .read-record .ensures) true _ _ _ (c .before .before .before .before .before .before .before .read2 .given .1) refl
+    line-adds (entry b) (b .args .count) _ true _ _ (ap case-as (c .before .before .before .before .before .before .before .read2 .given .1))
     (c .before .line2 .result)
-    (in-arrays (a .p) (last .0) (last .1 .0) (last .1 .1 .0) (last .1 .1 .1 .0))
+    (in-arrays (b .args .p) (last .0) (last .1 .0) (last .1 .1 .0) (last .1 .1 .1 .0))
     (c .before .line2 .ensures) _ (c .on-line2 .ensures)
 
 returns-3 : tie.Need-returns-3
 returns-3 c =
-    let k = c .before .before .before .before .before .before .before .before .before in
-    let a = k .before .before .args in
+    let b = c .before .before .before .before .before .before .before .before .before in
     let last = c .before .mark .last .1 in
-    mark-adds (entry (k .before .before)) (a .count) (now (a .bytes)) (k .read-record .result) (k .read-record .ensures) _ _ (c .before .before .before .before .before .before .before .read3 .given .1) refl
+    mark-adds (entry b) (b .args .count) _ _ (ap case-as (c .before .before .before .before .before .before .before .read3 .given .1))
     (c .before .mark .result)
-    (in-arrays (a .p) (last .0) (last .1 .0) (last .1 .1 .0) (last .1 .1 .1 .0))
+    (in-arrays (b .args .p) (last .0) (last .1 .0) (last .1 .1 .0) (last .1 .1 .1 .0))
     (c .before .mark .ensures) _ (c .on-mark .ensures)
 
 returns-4 : tie.Need-returns-4
 returns-4 c =
-    let k = c .before .before .before in
-    let b = k .before .before in
-    end-adds (entry b) (b .args .count) (now (b .args .bytes)) (k .read-record .result) (k .read-record .ensures) (b .pre .0) (as-lent b) refl _ (c .before .enum-told .given .1) _ (c .ended .ensures)
+    let b = c .before .before .before in
+    end-adds (entry b) (b .args .count) _ (b .pre .0) (as-lent b) refl (ap case-as (c .before .enum-told .given .1)) _ (c .ended .ensures)
 
 returns-5 : tie.Need-returns-5
 returns-5 c =
-    let k = c .before .before .before .before in
-    let b = k .before .before in
-    refused-adds (entry b) (b .args .count) (now (b .args .bytes)) (k .read-record .result) (k .read-record .ensures) (b .pre .0) (as-lent b) refl _ (c .before .before .read4 .given .1) _ (c .stopped .ensures)
+    let b = c .before .before .before .before in
+    refused-adds (entry b) (b .args .count) _ (b .pre .0) (as-lent b) refl _ (ap case-as (c .before .before .read4 .given .1)) _ (c .stopped .ensures)
 
 pub record-spec : {M : Type 1} → statement M
 record-spec =
     tie.close
     (tie.spec
-    read-record-requires
     enum-known-read
     line-requires
     on-line-requires

@@ -1,0 +1,63 @@
+-- Demand 1 of the packed forms: "a numbered refusal, given exactly when the rules say so", and nothing else is answered or altered.
+use Prim.Native.Nat.{ℕ, suc, _+_}
+use mathlib.Core.Path.{_≡_, refl, sym, _∙_}
+use mathlib.Core.Bool.{not}
+use mathlib.Core.List.{List}
+use native.Mathlib.Omega.{arith}
+use lib.ListN.{length}
+use lib.Dec.{ltb, eqb}
+use Rattle.meaning.specs.Words.{Property as PropertyMeant}
+use Rattle.meaning.specs.Numbers.{given, first-of, property-refusal}
+use Rattle.property.specs.Meant.{meant}
+use Rattle.property_form.specs.Read.{property-read, zeros, too-short, pad-broken, read-refusal as property-read-refusal, taken as property-taken}
+use Rattle.property_form.specs.Read
+use Rattle.property_form.specs.Write
+use Rattle.property_form.specs.Form.{property-form}
+use Rattle.property_form.proofs.Answers.{read-refused, taken-none, written-refused, left-refused}
+use Rattle.fields.specs.Fields.{field}
+use Rattle.record_form.specs.Record.{record-answer, read-refusal, fields-refusal, bytes-read, broken, stamp-above, write-refusal}
+use Rattle.record_form.specs.Record
+use Rattle.record_form.proofs.Reading.{refusal-of}
+use Rattle.demands.specs.Refuses.{Refuses}
+use Rattle.demands.proofs.Forms.{answer-refused, record-not-written}
+
+-- `read_property` with `property_rest`: 7, 8, 1, 2, 3; a property of zeros, and no byte is taken.
+pub demand-1-read-property : (s : List ℕ)
+    → Refuses (Read.read s .refusal) (first-of (given 7 (too-short s)) (first-of (given 8 (pad-broken s)) (property-refusal (meant (property-read s)))))
+    (λ n. (Read.read s ≡ record { refusal = n; property = zeros }) × (property-taken s ≡ 0))
+unfolding Read.read property-read-refusal
+demand-1-read-property s =
+    record {
+      first = refl;
+      alone = λ n e. (sym (read-refused s (suc n) zeros (sym e) (λ z. omega arith) refl), sym (taken-none s (λ z. omega (arith, e, z))));
+    }
+
+-- `write_property`: 1, 2, 3, 9; no byte is written.
+pub demand-1-write-property : (q : PropertyMeant) (buffer : List ℕ)
+    → Refuses (Write.written q buffer .refusal) (first-of (property-refusal q) (given 9 (ltb (length buffer) (length (property-form q)))))
+    (λ n. (Write.written q buffer ≡ record { refusal = n; size = 0 }) × (Write.left q buffer ≡ buffer))
+unfolding Write.written Write.write-refusal
+demand-1-write-property q buffer =
+    record {
+      first = refl;
+      alone = λ n e. (sym (written-refused q buffer (suc n) (sym e) (λ z. omega arith)), sym (left-refused q buffer (λ z. omega (arith, e, z))));
+    }
+
+-- `read_record` with `record_rest`: 7, 8, 4; zeros, and no byte is taken.
+pub demand-1-read-record : (s : List ℕ) (before : ℕ)
+    → Refuses (record-answer s before .refusal)
+    (first-of (given 7 (ltb (length s) 6))
+    (first-of (given 8 (broken (field s 0 2) (field s 2 6) (not (eqb (field s 8 40) 0)))) (given 4 (stamp-above (before + field s 8 40) before))))
+    (λ n. (record-answer s before ≡ Record.refused n) × (bytes-read s before ≡ 0))
+unfolding record-answer read-refusal fields-refusal bytes-read
+demand-1-read-record s before =
+    record { first = refusal-of s before; alone = λ n e. answer-refused (read-refusal s before) n 6 _ (sym (refusal-of s before) ∙ e) }
+
+-- `write_record`: 8, 3, 4, 5, 9; no byte is written.
+pub demand-1-write-record : (kind action stamp before : ℕ) (buffer : List ℕ)
+    → Refuses (write-refusal kind action stamp before (length buffer))
+    (first-of (given 8 (broken kind action (not (eqb stamp before))))
+    (first-of (given 3 (ltb 63 action)) (first-of (given 4 (stamp-above stamp before)) (first-of (given 5 (ltb stamp before)) (given 9 (ltb (length buffer) 6))))))
+    (λ n. Record.written kind action stamp before buffer ≡ buffer)
+unfolding write-refusal
+demand-1-write-record kind action stamp before buffer = record { first = refl; alone = record-not-written kind action stamp before buffer }

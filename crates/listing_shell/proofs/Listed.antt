@@ -1,0 +1,25 @@
+-- A record that was read by its form's reader adds what it stands for.
+use Prim.Native.Nat.{ℕ, _≤_}
+use mathlib.Core.Path.{sym, subst}
+use mathlib.Core.List.{List}
+use native.Mathlib.Omega.{arith}
+use lib.ListN.{length, take, length-take}
+use Rattle.record_form.specs.declared.RecordRead.{RecordRead}
+use Rattle.record_form.specs.Record.{ReadBy}
+use Rattle.record_form.specs.ReadAs.{ReadAs, case-as}
+use Rattle.record_form.proofs.ReadAs.{read-case}
+use Rattle.session_record.specs.declared.Session.{Session}
+use Rattle.session_record.specs.Record.{latest-of}
+use Rattle.printed.specs.declared.lent.Added.{Added}
+use Rattle.printed.specs.Lent.{Adds}
+use Rattle.listing_shell.specs.declared.Form.{Form}
+use Rattle.listing_shell.specs.Form.{size-of, reader-of, Lists}
+
+-- no more bytes came than were asked for
+pub front-few : (n : ℕ) (bytes : List ℕ) (most : ℕ) → n ≤ most → length (take n bytes) ≤ most
+front-few n bytes most h = omega (arith, length-take n bytes, h)
+
+pub lists : (form : Form) (s : Session) {count : ℕ} {bytes : List ℕ} {read : RecordRead} {r : Added} {after : Session} → ReadBy (reader-of form) bytes (latest-of s) read
+    → length bytes ≤ size-of form → Adds s count (case-as read) r after → Lists form s count r after
+lists form s {count} {bytes} {read} {r} {after} h few a =
+    record { bytes = bytes; few = few; adds = subst (λ (x : ReadAs). Adds s count x r after) (sym (read-case h)) a }
