@@ -28,6 +28,8 @@ use Rattle.property_form.specs.Read
 use Rattle.record_form.specs.Record.{Reader, Bytes, record-size, record-answer}
 use Rattle.record_form.specs.Trace.{trace-form}
 use Rattle.record_form.proofs.Reader.{Reads, record-reads}
+use Rattle.tap_form.specs.Tap.{tap-size, tap-answer}
+use Rattle.tap_form.proofs.Reader.{tap-reads}
 use Rattle.cuts.specs.Steps.{fresh-by, refusal-by}
 use Rattle.session_record.specs.declared.Session.{Session}
 use Rattle.session_record.specs.Record.{record-of, cuts-of, out-of-range}
@@ -57,7 +59,11 @@ pub use Rattle.record_form.proofs.Trace.{trace-reads-back, trace-writes-back, t
 pub use Rattle.demands.proofs.Written.{written-trace}
 pub use Rattle.demands.proofs.Digits.{decimal-reads}
 pub use Rattle.demands.proofs.Forms.{begins-one-packing}
-pub use Rattle.demands.proofs.Packed.{demand-1-read-property, demand-1-write-property, demand-1-read-record, demand-1-write-record}
+pub use Rattle.demands.proofs.Packed.{demand-1-read-property, demand-1-write-property, demand-1-read-record, demand-1-write-record, demand-1-read-tap, demand-read-tap}
+-- The tap card's records of true stamps are read back as the lines that they are of, and two traces that are read as the same lines are the
+-- same bytes (document 02, CR 4).
+pub use Rattle.tap_form.proofs.Card.{card-reads-back, card-writes-back, card-one-packing}
+pub use Rattle.demands.proofs.Same.{demand-tap}
 -- Names (document 02, CR 2), in `Names`: the lists, `names::refused` and `name`, the listing with names.
 pub use Rattle.demands.proofs.Names.{list-taken, list-back, list-one-packing, one-list, one-entry, demand-1-names, demand-name, demand-1-lists, demand-1-named, demand-named}
 -- What is called (`Called`). A verdict once told stays told (document 02, CR 3): of the calls that run (`Told`), behind `running-3`.
@@ -152,7 +158,8 @@ pub fresh-begins : (p : Data.Property) → property-refusal (meant p) ≡ 0
     → fresh-of p ≡ record { answer = record { refusal = 0; verdict = 0; open_count = 0 }; session = record-of p (fresh-by p) }
 fresh-begins p = fresh-taken p
 
--- The packed forms, in `Packed`: `read_property` with `property_rest`, `write_property`, `read_record` with `record_rest`, `write_record`.
+-- The packed forms, in `Packed`: `read_property` with `property_rest`, `write_property`, `read_record` with `record_rest`, `write_record`, and
+-- the tap card's `read_tap` with `tap_rest`.
 
 -- ==== The calls that run, from a fresh session, for all call orders and all numbers
 module _ (p : Data.Property) (good : property-refusal (meant p) ≡ 0) where
@@ -259,6 +266,11 @@ listing-listed {size} {reader} reads property records =
 
 pub demand-listing : (property records : List ℕ) → Demand-listing record-size record-answer property records
 demand-listing = listing-listed record-reads
+
+-- The tap card's records behind the property (document 02, CR 4): the same of what its reader reads. Of lines and marks that the card can
+-- say, its records have the listing of document 01's (`demand-tap`, in `Same`).
+pub demand-tap-listing : (property records : List ℕ) → Demand-listing tap-size tap-answer property records
+demand-tap-listing = listing-listed tap-reads
 
 -- `printed::record` on any record: what the walk of one record refuses (10 first) is the number that its last line names.
 pub demand-1-printed : (s : Session) (count : ℕ) (bytes : List ℕ) (n : ℕ) → walk-of s bytes 1 .refusal ≡ suc n

@@ -12,6 +12,7 @@ pub mod Forms
 pub mod Packed
 pub mod Digits
 pub mod Listing
+pub mod Same
 pub mod Named
 pub mod Names
 pub mod Told
