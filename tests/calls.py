@@ -16,10 +16,11 @@ import sys
 
 sys.dont_write_bytecode = True
 import rules  # noqa: E402
-from rules import END_RECORD as END, LIMIT, pack_record as rec  # noqa: E402
+from rules import END_RECORD as END, LIMIT, TAP_END, TURN, pack_record as rec, pack_tap as tap  # noqa: E402
 
 TOP = os.path.dirname(os.path.dirname(os.path.abspath(__file__)))
 HUGE = 2 ** 64 - 1
+LAST = 2 ** 32 - 1  # of the tap card's counter
 
 # ---- the session record, as the script gives it and the console prints it. Each cut has a mask of matched lengths that are not
 # armed, and beside it a number with those that are, from bit 1 on; its bit 0 says that broken is among them.
@@ -335,10 +336,20 @@ def Q(p, buffer, want=0):
         lambda c: same("the answer", c.answer("Q"), [str(want), str(len(form)), hexed(left)]))
 
 
+def reader(name, size, before, b, want, *numbers):
+    """Of a record of `size` bytes; the numbers are kind, action and stamp."""
+    count(name, want)
+    add(name, word(before) + string(b),
+        lambda c: same("the answer", c.answer(name), [str(v) for v in (want, *numbers)] + rest_words(b if want else b[size:])))
+
+
 def R(before, b, want=0, kind=0, action=0, stamp=0):
-    count("R", want)
-    add("R", word(before) + string(b),
-        lambda c: same("the answer", c.answer("R"), [str(v) for v in (want, kind, action, stamp)] + rest_words(b if want else b[6:])))
+    reader("R", 6, before, b, want, kind, action, stamp)
+
+
+def K(before, b, want=0, kind=0, action=0, stamp=0):
+    same("the answer of rules.py to %s" % b.hex(), rules.read_tap(b, before), (want, kind, action, stamp))
+    reader("K", 5, before, b, want, kind, action, stamp)
 
 
 def S(kind, action, stamp, before, buffer, want=0):
@@ -476,13 +487,19 @@ def cases():
         L(act, stamp)
 
 
-def drawn():
-    """Short runs by a fixed draw, their verdicts, masks and broken flags found by listing."""
-    state = [20240601]
+def drawer(seed):
+    """Numbers below n by a fixed draw."""
+    state = [seed]
 
     def draw(n):
         state[0] = (state[0] * 6364136223846793005 + 1442695040888963407) % 2 ** 64
         return (state[0] >> 33) % n
+    return draw
+
+
+def drawn():
+    """Short runs by a fixed draw, their verdicts, masks and broken flags found by listing."""
+    draw = drawer(20240601)
     for k in range(30):
         title("drawn run %d" % k)
         lb = 1 + draw(6)
@@ -808,6 +825,62 @@ def record_reader():
     R(LIMIT + 1, rec(3, 0, 1), 8)
 
 
+def tap_reader():
+    acts = (0, 0), (0, 63), (1, 5), (2, 0)
+    title("the card's record reader: the stamp before, the counter and the stamp")
+    for before, counter, stamp in (
+            (0, 0, 0), (0, 1, 1), (0, 2_147_483_648, 2_147_483_648), (0, LAST, 4_294_967_295),
+            (1, 1, 1), (1, 2, 2), (1, LAST, 4_294_967_295), (1, 0, 4_294_967_296),
+            (100, 100, 100), (100, 101, 101), (100, 99, 4_294_967_395),
+            (LAST, LAST, 4_294_967_295), (LAST, 0, 4_294_967_296), (LAST, 1, 4_294_967_297), (LAST, LAST - 1, 8_589_934_590),
+            (TURN, 0, 4_294_967_296), (TURN, 1, 4_294_967_297), (TURN, LAST, 8_589_934_591),
+            (TURN + 1, 1, 4_294_967_297), (TURN + 1, 0, 8_589_934_592),
+            (77_309_411_428, 100, 77_309_411_428), (77_309_411_428, 101, 77_309_411_429), (77_309_411_428, 99, 81_604_378_723),
+            (1_095_216_660_479, LAST, 1_095_216_660_479), (1_095_216_660_479, 0, 1_095_216_660_480),
+            (1_095_216_660_480, 0, 1_095_216_660_480), (1_095_216_660_480, LAST, 1_099_511_627_775),
+            (LIMIT - 1, LAST - 1, 1_099_511_627_774), (LIMIT - 1, LAST, 1_099_511_627_775), (LIMIT, LAST, 1_099_511_627_775)):
+        for kind, action in acts:
+            K(before, tap(kind, action, counter), 0, kind, action, stamp)
+    title("an end of the card's")
+    for before in (0, 1, LAST, TURN, LIMIT):
+        K(before, TAP_END, 0, 3, 0, before)
+    title("the rest behind a record of the card's")
+    for size in (1, 2, 3, 15, 16, 17):
+        K(LAST, tap(1, 63, 0) + marked(size), 0, 1, 63, TURN)
+        K(LAST, tap(2, 0, LAST) + marked(size), 0, 2, 0, LAST)
+        K(LAST, TAP_END + marked(size), 0, 3, 0, LAST)
+        K(LAST, tap(2, 1, 0) + marked(size), 8)
+        K(LIMIT, tap(0, 1, 0) + marked(size), 4)
+    title("7 of the card's record reader, before 8 and 4")
+    for b in (tap(0, 63, LAST), tap(1, 0, 0), tap(2, 0, 7), TAP_END, tap(2, 1, 0), tap(3, 1, 0), tap(3, 0, TURN // 2)):
+        for size in range(5):
+            K(7, b[:size], 7)
+        K(LIMIT, b[:4], 7)
+        K(LIMIT + 1, b[:4], 7)
+    K(HUGE, b"", 7)
+    title("8 of the card's record reader, before 4")
+    for bit in range(38):
+        K(7, (3 << 38 | 1 << bit).to_bytes(5, "big"), 8)
+    for before in (0, LIMIT, LIMIT + 1, HUGE):
+        for b in [tap(2, 1 << bit, before % TURN) for bit in range(6)] + [tap(2, 63, 0), tap(3, 1, 0), tap(3, 0, 1), tap(3, 63, LAST)]:
+            K(before, b, 8)
+    title("4 of the card's record reader")
+    for before, counter in ((LIMIT, 0), (LIMIT, LAST - 1), (LIMIT, 2_147_483_648), (LIMIT - 1, 0), (LIMIT - 1, LAST - 2),
+                            (1_095_216_660_481, 0), (LIMIT + 1, 0), (LIMIT + 1, 1), (LIMIT + 1, LAST), (LIMIT + TURN, LAST),
+                            (2 ** 63, 0), (HUGE, LAST), (HUGE, 0), (HUGE, LAST - 1)):
+        for kind, action in acts:
+            K(before, tap(kind, action, counter), 4)
+    for before in (LIMIT + 1, 2 ** 63, HUGE):
+        K(before, TAP_END, 4)
+    title("the card's records by a fixed draw")
+    draw = drawer(20260104)
+    for _ in range(60):
+        before = draw(256) * TURN + (draw(TURN // 4) * 4 + draw(4) if draw(2) else (draw(7) - 3) % TURN)
+        counter = (before + draw(7) - 3) % TURN if draw(2) else draw(TURN // 4) * 4 + draw(4)
+        b = tap(*acts[draw(4)], counter) + marked(draw(3))
+        K(before, b, *rules.read_tap(b, before))
+
+
 def record_writer():
     title("the record writer")
     for kind, action in ((0, 0), (0, 63), (1, 0), (1, 63), (2, 0), (3, 0)):
@@ -973,7 +1046,7 @@ def names():
 
 def build():
     for part in (at_the_start, properties, cases, drawn, lines, room, records_of_no_calls, walks, record_reader, record_writer,
-                 property_reader, judge, names):
+                 property_reader, judge, names, tap_reader):
         part()
 
 
@@ -990,7 +1063,7 @@ def check(text):
             if wrong == 10 or not isinstance(error, Wrong):
                 return False
             # to the next answer
-            letters = set("FLGWJPQRSVTN?")
+            letters = set("FLGWJPQRSVTNK?")
             while c.at < len(c.lines) and c.lines[c.at][:2].strip() not in letters:
                 c.at += 1
     if c.lines[c.at:] != [""]:
@@ -1026,7 +1099,7 @@ def main():
                 sys.exit(1)
     calls = [call for call in CALLS if call[0]]
     print("calls: %d calls in %d bytes answered as expected:" % (len(calls), len(script)))
-    for name in "FLGWJPQRSVTN":
+    for name in "FLGWJPQRSVTNK":
         print("  %s %s" % (name, ", ".join("%s %d" % ("taken" if want == 0 else "refusal %d" % want, n)
                                            for (of, want), n in sorted(kv for kv in COUNTS.items() if kv[0][0] == name))))
     print("  sessions held against all orders of their run: %d" % LISTED[0])

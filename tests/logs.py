@@ -1,7 +1,10 @@
-"""Packed logs, whole and damaged, for tests/listing.py and tests/names.py, and how the programs are run that list them."""
+"""Packed logs, whole and damaged, for tests/listing.py, tests/names.py and tests/tap.py, and how the programs are run that list
+them."""
 import os
 import shlex
 import subprocess
+import sys
+import tempfile
 
 import rules
 
@@ -9,9 +12,9 @@ TOP = os.path.dirname(os.path.dirname(os.path.abspath(__file__)))
 TOOL = os.path.join(TOP, 'tools', 'listing')
 
 
-def listing_command():
+def listing_command(*words):
     """As tools/listing names it, once it has built the program."""
-    return shlex.split(subprocess.run([TOOL, '--command'], stdout=subprocess.PIPE, check=True).stdout.decode())
+    return shlex.split(subprocess.run([TOOL, *words, '--command'], stdout=subprocess.PIPE, check=True).stdout.decode())
 
 
 def named_command():
@@ -22,19 +25,78 @@ def named_command():
     return words[:-1] + [os.path.join(os.path.dirname(words[-1]), 'named_listing')]
 
 
-def whole(rng, highest=1):
-    """Action numbers up to `highest`."""
+def size_read(data, want, size=6):
+    """How many bytes a program reads that lists these as `want`, in records of `size` bytes: none behind the end record, nor behind
+    a property or record that it refuses."""
+    last = want[-1].split()
+    if last[0] == 'stop' and last[2] == '7':
+        return len(data)
+    front = (122 + 7 * (data[0] >> 2) + 7) // 8
+    return front if rules.read_property(data)[0] else front + size * (int(last[1]) + 1)
+
+
+class Runs:
+    """A program, run and compared with `listing`, one of tests/rules.py, and with how many bytes it should have read."""
+
+    def __init__(self, name, command, listing, size_read):
+        self.name, self.command, self.listing, self.size_read = name, command, listing, size_read
+        self.ends, self.verdicts = {}, 0
+
+    def compare(self, what, data, last=None):
+        """Exits at a difference. `last` is the last line, where it is known."""
+        want, both = self.listing(data)
+        if last is not None and want[-1] != last:
+            sys.exit(f'{self.name}: {what}: {data.hex()}\nexpected {last}\nrules.py {want[-1]}')
+        with tempfile.TemporaryFile() as given:
+            given.write(data)
+            given.seek(0)
+            got = subprocess.run(self.command, stdin=given, stdout=subprocess.PIPE, check=True).stdout
+            read = os.lseek(given.fileno(), 0, os.SEEK_CUR)
+        if got != '\n'.join(want + ['']).encode():
+            sys.exit(f'{self.name}: {what}: {data.hex()}\nexpected {want}\ngot      {got.decode("ascii", "replace").splitlines()}')
+        if read != self.size_read(data, want):
+            sys.exit(f'{self.name}: {what}: {data.hex()}\n{read} bytes were read, expected {self.size_read(data, want)}')
+        end = end_of(want)
+        self.ends[end] = self.ends.get(end, 0) + 1
+        self.verdicts += both
+        return want
+
+    def told(self):
+        return ', '.join(f'{k} {v}' for k, v in sorted(self.ends.items()))
+
+
+def near(rng, latest):
+    return rng.choice([0, 1, 2, 3, 5, 8, 13, 20])
+
+
+def whole(rng, highest=1, step=near):
+    """Action numbers up to `highest`. `step` draws how far a stamp is behind the latest."""
     lower = rng.randint(1, 4)
     upper = lower + rng.randint(0, 4)
     n = rng.choice([1, 1, 1, 2, 2, 3])
     sequence = [(rng.random() < .5, rng.randint(0, highest)) for _ in range(n)]
     allowed = sum(1 << k for k in range(64) if rng.random() < .3)
-    data = rules.pack_property(rules.Property(sequence, allowed, lower, upper))
+    data, latest = rules.pack_property(rules.Property(sequence, allowed, lower, upper)), 0
     for _ in range(rng.randint(0, 9)):
         kind = rng.choice([0, 0, 0, 1, 1, 1, 1, 2])
         action = 0 if kind == rules.GAP else rng.randint(0, highest)
-        data += rules.pack_record(kind, action, rng.choice([0, 1, 2, 3, 5, 8, 13, 20]))
+        less = step(rng, latest)
+        latest += less
+        data += rules.pack_record(kind, action, less)
     return data + rules.END_RECORD
+
+
+def as_card(data):
+    """A whole log as the tap card sends it, if the card can say it."""
+    _, _, at = rules.read_property(data)
+    card, latest = data[:at], 0
+    while True:
+        refusal, kind, action, stamp = rules.read_record(data[at:at + 6], latest)
+        assert not refusal and stamp < latest + rules.TURN
+        if kind == rules.END:
+            return card + rules.TAP_END
+        card += rules.pack_tap(kind, action, stamp % rules.TURN)
+        at, latest = at + 6, stamp
 
 
 def crowded():
@@ -43,7 +105,8 @@ def crowded():
     return data + rules.pack_record(rules.INPUT, 0, 0) * 65 + rules.END_RECORD
 
 
-def damaged(rng, data):
+def damaged(rng, data, size=6):
+    """`size` is that of a record."""
     data = bytearray(data)
     how = rng.randrange(6)
     if how == 0:
@@ -54,10 +117,10 @@ def damaged(rng, data):
     elif how == 2:
         data[rng.randrange(min(len(data), 20))] ^= 1 << rng.randrange(8)
     elif how == 3:
-        at = len(data) - 6 * rng.randint(1, 2)
+        at = len(data) - size * rng.randint(1, 2)
         data[max(at, 17) + 1:max(at, 17) + 1] = b'\xff' * rng.randint(1, 6)
     elif how == 4:
-        data[-6:] = bytes([rng.choice([0xC1, 0x81, 0xC0, 0x80])]) + bytes([rng.choice([0, 255])]) * 5
+        data[-size:] = bytes([rng.choice([0xC1, 0x81, 0xC0, 0x80])]) + bytes([rng.choice([0, 255])]) * (size - 1)
     return bytes(data) + bytes(rng.randrange(256) for _ in range(rng.choice([0, 0, 7])))
 
 

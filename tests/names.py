@@ -3,11 +3,8 @@
 tests/rules.py, and how far it has read its input: the fixed cases below, whose last lines are written down here, and random ones.
 
     tests/names.py COUNT SEED [COMMAND..]     exits 1 at a difference; without COMMAND the one that tools/listing --names runs"""
-import os
 import random
-import subprocess
 import sys
-import tempfile
 
 sys.dont_write_bytecode = True
 import logs  # noqa: E402
@@ -20,41 +17,16 @@ BEHIND = b'not to be read'
 # ---- the program, run and compared
 
 def size_read(data, want):
-    """How many bytes the program reads: none behind the end record, nor behind a list, property or record that it refuses."""
-    last = want[-1].split()
-    if last[0] == 'stop' and last[2] == '7':
-        return len(data)
+    """How many bytes the program reads: none behind a list that it refuses."""
     refusal, _, at = rules.read_lists(data)
-    if refusal:
-        return at
-    size = (122 + 7 * (data[at] >> 2) + 7) // 8
-    if rules.read_property(data[at:])[0]:
-        return at + size
-    return at + size + 6 * (int(last[1]) + 1)
+    return at if refusal else at + logs.size_read(data[at:], want)
 
 
-class Runs:
-    def __init__(self, command):
-        self.command = command
-        self.ends, self.verdicts, self.names = {}, 0, 0
+class Runs(logs.Runs):
+    names = 0
 
     def compare(self, what, data, last=None):
-        """Exits at a difference. `last` is the last line, where it is known."""
-        want, both = rules.named_listing(data)
-        if last is not None and want[-1] != last:
-            sys.exit(f'names: {what}: {data.hex()}\nexpected {last}\nrules.py {want[-1]}')
-        with tempfile.TemporaryFile() as given:
-            given.write(data)
-            given.seek(0)
-            got = subprocess.run(self.command, stdin=given, stdout=subprocess.PIPE, check=True).stdout
-            read = os.lseek(given.fileno(), 0, os.SEEK_CUR)
-        if got != '\n'.join(want + ['']).encode():
-            sys.exit(f'names: {what}: {data.hex()}\nexpected {want}\ngot      {got.decode("ascii", "replace").splitlines()}')
-        if read != size_read(data, want):
-            sys.exit(f'names: {what}: {data.hex()}\n{read} bytes were read, expected {size_read(data, want)}')
-        end = logs.end_of(want)
-        self.ends[end] = self.ends.get(end, 0) + 1
-        self.verdicts += both
+        want = super().compare(what, data, last)
         self.names += sum(line.split()[3] != '-' for line in want[1:-1])
         return want
 
@@ -258,12 +230,11 @@ def some_input(rng, i):
 def main():
     count, seed, command = int(sys.argv[1]), int(sys.argv[2]), sys.argv[3:] or logs.named_command()
     rng = random.Random(seed)
-    runs = Runs(command)
+    runs = Runs('names', command, rules.named_listing, size_read)
     cases = fixed(runs)
     for i in range(count):
         runs.compare(f'input {i}', some_input(rng, i))
-    told = ', '.join(f'{k} {v}' for k, v in sorted(runs.ends.items()))
-    print(f'names: seed {seed}, {cases} fixed cases and {count} inputs: {told}; {runs.names} names printed, '
+    print(f'names: seed {seed}, {cases} fixed cases and {count} inputs: {runs.told()}; {runs.names} names printed, '
           f'{runs.verdicts} verdicts by listing all orders; 0 differences')
 
 

@@ -1,5 +1,5 @@
-"""The rules (docs/RULES.md) read once more, for the Python tests: packed forms, explanations, verdicts, room, gaps, the listing,
-lists of names and the listing with names.
+"""The rules (docs/RULES.md) read once more, for the Python tests: packed forms, explanations, verdicts, room, gaps, the listing
+of ordinary records and of the tap card's, lists of names and the listing with names.
 
 It shares nothing with the crates, the tools or the C tests. A verdict is found in two ways: from all explanations of a run,
 listed one by one, and by one step after the other over cuts, which long runs need."""
@@ -10,6 +10,7 @@ LIMIT = 2 ** 40 - 1
 HIGHEST_BOUND = 60_000_000
 MOST_ACTIONS = 32
 MOST_OPEN = 64
+TURN = 2 ** 32  # the tap card's counter returns to 0 there
 INPUT, OUTPUT, GAP, END = range(4)
 CLEAR, SUSPECT, CERTAIN, BLIND = range(4)
 WORDS = ["clear", "suspect", "certain", "blind"]
@@ -41,7 +42,12 @@ def pack_record(kind, action, less):
     return bytes([kind << 6 | action]) + less.to_bytes(5, "big")
 
 
+def pack_tap(kind, action, counter):
+    return bytes([kind << 6 | action]) + counter.to_bytes(4, "big")
+
+
 END_RECORD = pack_record(END, 0, 0)
+TAP_END = pack_tap(END, 0, 0)
 
 
 def read_property(data):
@@ -66,16 +72,27 @@ def read_property(data):
     return 0, Property(sequence, allowed, lb, ub), size
 
 
-def read_record(data, before):
-    """Refusal, kind, action and stamp of the record at the front."""
-    if len(data) < 6:
+def read_form(data, before, size, less):
+    """Refusal, kind, action and stamp of the record of `size` bytes at the front; `less` finds how far its stamp is behind the one
+    before."""
+    if len(data) < size:
         return 7, 0, 0, 0
-    kind, action, less = data[0] >> 6, data[0] & 63, int.from_bytes(data[1:6], "big")
-    if kind == GAP and action or kind == END and (action or less):
+    kind, action, field = data[0] >> 6, data[0] & 63, int.from_bytes(data[1:size], "big")
+    if kind == GAP and action or kind == END and (action or field):
         return 8, 0, 0, 0
-    if before + less > LIMIT:
+    stamp = before if kind == END else before + less(field)
+    if stamp > LIMIT:
         return 4, 0, 0, 0
-    return 0, kind, action, before + less
+    return 0, kind, action, stamp
+
+
+def read_record(data, before):
+    return read_form(data, before, 6, lambda field: field)
+
+
+def read_tap(data, before):
+    """A record of the tap card, whose field is a counter."""
+    return read_form(data, before, 5, lambda counter: (counter - before) % TURN)
 
 
 # ---- what could have happened at the node, listed
@@ -238,15 +255,16 @@ def run_after(p, w, run, kind, action, stamp):
 # ---- the listing
 
 
-def listing(data, most=MOST_LISTED):
-    """The lines that the printing program prints for these bytes, and how many verdicts were found in both ways."""
+def listing(data, most=MOST_LISTED, size=6, read=read_record):
+    """The lines that the printing program prints for these bytes, and how many verdicts were found in both ways. `size` and `read`
+    are those of a record."""
     lines, both = ["line kind action stamp verdict open"], 0
     refusal, p, at = read_property(data)
     if refusal:
         return lines + ["stop 0 %d" % refusal], both
     w, run, taken = FRESH, [], 0
     while True:
-        refusal, kind, action, stamp = read_record(data[at:at + 6], w.latest)
+        refusal, kind, action, stamp = read(data[at:at + size], w.latest)
         if not refusal and kind == END:
             return lines + ["end %d" % taken], both
         if not refusal:
@@ -263,8 +281,13 @@ def listing(data, most=MOST_LISTED):
             held = sum(not out and at_ + 2 * p.ub >= stamp for out, _, at_ in run)
             assert held == len(w.held), "the two ways to the number open differ"
         taken += 1
-        at += 6
+        at += size
         lines.append("%d %s %d %d %s %d" % (taken, "IOG"[kind], action, stamp, WORDS[verdict], len(w.held)))
+
+
+def tap_listing(data, most=MOST_LISTED):
+    """The same for the program that lists the tap card's records."""
+    return listing(data, most, 5, read_tap)
 
 
 # ---- names

@@ -80,13 +80,29 @@ fn read_numbers(r: RecordRead) -> [u64; 4] {
     }
 }
 
+// Prints what a reader of records answered, and the rest.
+fn put_read(out: &mut Page, name: &[u8], r: RecordRead, rest: &[u8]) -> usize {
+    let numbers = read_numbers(r);
+    let told = text::put_numbers(out, 0, name, &numbers);
+    text::put_rest(out, told, rest)
+}
+
 fn read_record(args: &[u8], out: &mut Page) -> Done {
     let before = arguments::word_at(args, 0);
     let given = arguments::behind(args, 8);
     let bytes = arguments::string(given);
-    let numbers = read_numbers(record_form::read_record(bytes, before));
-    let told = text::put_numbers(out, 0, b"R", &numbers);
-    let printed = text::put_rest(out, told, record_form::record_rest(bytes, before));
+    let r = record_form::read_record(bytes, before);
+    let printed = put_read(out, b"R", r, record_form::record_rest(bytes, before));
+    leave(arguments::string_rest(given), printed)
+}
+
+// The same of the tap card's record.
+fn read_tap(args: &[u8], out: &mut Page) -> Done {
+    let before = arguments::word_at(args, 0);
+    let given = arguments::behind(args, 8);
+    let bytes = arguments::string(given);
+    let r = tap_form::read_tap(bytes, before);
+    let printed = put_read(out, b"K", r, tap_form::tap_rest(bytes, before));
     leave(arguments::string_rest(given), printed)
 }
 
@@ -147,6 +163,7 @@ fn unknown(name: u8, out: &mut Page) -> Done {
 pub fn call(name: u8, args: &[u8], out: &mut Page) -> Done {
     match name {
         b'J' => judge(args, out),
+        b'K' => read_tap(args, out),
         b'N' => name_of(args, out),
         b'P' => read_property(args, out),
         b'Q' => write_property(args, out),
