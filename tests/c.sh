@@ -30,6 +30,7 @@ samples_are_as_packed() {
         pack "$top/samples/$name.txt" >"$build/$name.bin" || return 1
         cmp "$build/$name.bin" "$top/samples/$name.bin" || return 1
     done <"$top/tests/samples.expected"
+    pack --tap "$top/samples/tap.txt" >"$build/tap.card" && cmp "$build/tap.card" "$top/samples/tap.card"
 }
 
 # The bytes that document 01 prints for case 15.

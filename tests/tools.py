@@ -20,15 +20,18 @@ import threading
 import time
 
 sys.dont_write_bytecode = True
+import logs  # noqa: E402
 import rules  # noqa: E402
-from rules import END, END_RECORD, GAP, INPUT, LIMIT, OUTPUT, pack_record  # noqa: E402
+from rules import END, END_RECORD, GAP, INPUT, LIMIT, OUTPUT, TAP_END, TURN, pack_record, pack_tap  # noqa: E402
 
 TOP = os.path.dirname(os.path.dirname(os.path.abspath(__file__)))
-PROGRAM, NAMED_PROGRAM = (os.path.join(TOP, 'target', 'bin', name) for name in ('listing', 'named_listing'))
+PROGRAMS = 'listing', 'named_listing', 'tap_listing'
+PROGRAM, NAMED_PROGRAM, TAP_PROGRAM = (os.path.join(TOP, 'target', 'bin', name) for name in PROGRAMS)
 LISTING, NAMES, PACK, UNPACK = (os.path.join(TOP, 'tools', name) for name in ('listing', 'names', 'pack', 'unpack'))
 SAMPLES = sorted(os.path.join(TOP, 'samples', name) for name in os.listdir(os.path.join(TOP, 'samples')) if name.endswith('.bin'))
 SITE, RELEASE = (os.path.join(TOP, 'samples', f'switch-{name}.names') for name in ('site', 'release'))
 SWITCH = os.path.join(TOP, 'samples', 'switch.bin')
+CARD, CARD_TEXT = (os.path.join(TOP, 'samples', name) for name in ('tap.card', 'tap.txt'))
 PATIENCE = 60
 SHORT = 30  # seconds that something ready at once may take on a busy machine
 
@@ -145,10 +148,10 @@ def some_line(source):
 B = rules.Property([(False, 0)], 2, 10, 30)
 
 
-def long_log(records, seed):
+def long_log(records, seed, before=b''):
     """A property and records with gap marks, breaches and quiet stretches among them, few inputs open at a time."""
     rng = random.Random(seed)
-    data = rules.pack_property(rules.Property([(False, 0), (True, 1)], 2, 3, 9))
+    data = rules.pack_property(rules.Property([(False, 0), (True, 1)], 2, 3, 9)) + before
     for i in range(records):
         # every fifty records or so the run is closed, since a run stays certain once it is
         if rng.random() < .02:
@@ -158,32 +161,41 @@ def long_log(records, seed):
 
 
 LONG = long_log(4000, 20260101)
+LONG_CARD = logs.as_card(long_log(4000, 20260101, pack_record(OUTPUT, 0, TURN - 10_000)))
+
+
+def card_at_limit():
+    """The card's gap marks up to the limit, 257 of them."""
+    return b''.join(pack_tap(GAP, 0, counter) for counter in [TURN - number for number in range(1, 257)] + [TURN - 1])
 
 
 # ---- parts
 
 def listing_status(folder):
     made = Folder(folder)
-    for path in SAMPLES:
-        want, _ = rules.listing(contents(path))
-        status, out, said = made.run(path)
+    for words, path, listing in [([], path, rules.listing) for path in SAMPLES] + [(['--tap'], CARD, rules.tap_listing)]:
+        want, _ = listing(contents(path))
+        status, out, said = made.run(*words, path)
         same(f'the listing of {path}', out.decode().split('\n'), want + [''])
         same(f'the status of {path}', status, 1 if want[-1].startswith('stop') else 0)
         same(f'messages for {path}', said, '')
-    for data, last in ((b'', 'stop 0 7'), (b'\0' * 71, 'stop 0 1'), (rules.pack_property(B) + pack_record(GAP, 1, 0), 'stop 0 8')):
-        status, out, _ = made.run(data=data)
-        same('the status of a refusal', (status, out.decode().split('\n')[-2]), (1, last))
+    for words, gap in (([], pack_record(GAP, 1, 0)), (['--tap'], pack_tap(GAP, 1, 0))):
+        for data, last in ((b'', 'stop 0 7'), (b'\0' * 71, 'stop 0 1'), (rules.pack_property(B) + gap, 'stop 0 8')):
+            status, out, _ = made.run(*words, data=data)
+            same('the status of a refusal', (status, out.decode().split('\n')[-2]), (1, last))
 
 
 def listing_long(folder):
     """The shell's loop goes on for thousands of records."""
-    want, _ = rules.listing(LONG, 50)
-    counts = {word: sum(line.split()[4:5] == [word] for line in want) for word in rules.WORDS}
-    holds(f'few of some verdict: {counts}', len(want) > 4000 and min(counts.values()) > 40)
-    status, out, _ = run([LISTING], LONG)
-    same('the status of a long listing', status, 0)
-    same('the lines of a long listing', len(out.decode().split('\n')) - 1, len(want))
-    same('a long listing', out.decode().split('\n'), want + [''])
+    for words, log, listing in (([], LONG, rules.listing), (['--tap'], LONG_CARD, rules.tap_listing)):
+        want, _ = listing(log, 50)
+        counts = {word: sum(line.split()[4:5] == [word] for line in want) for word in rules.WORDS}
+        holds(f'few of some verdict: {counts}', len(want) > 4000 and min(counts.values()) > 40)
+        holds(f"the card's counter does not return: {want[-2]}", not words or int(want[-2].split()[3]) > TURN + 10_000)
+        status, out, _ = run([LISTING] + words, log)
+        same('the status of a long listing', status, 0)
+        same('the lines of a long listing', len(out.decode().split('\n')) - 1, len(want))
+        same('a long listing', out.decode().split('\n'), want + [''])
 
 
 def listing_lost_output(folder):
@@ -194,7 +206,8 @@ def listing_lost_output(folder):
         long.write(LONG)
     for env in environments():
         lost_output([made.listing, path], made.environment(env), folder, quiet=True)
-    lost_output([made.listing, '--names', SITE, RELEASE, path], made.environment(environments()[0]), folder, quiet=True)
+    for words in (['--names', SITE, RELEASE, path], ['--tap', CARD]):
+        lost_output([made.listing] + words, made.environment(environments()[0]), folder, quiet=True)
     for words in ('tools/listing samples/case14.bin | head -1', 'tools/listing samples/case14.bin | head -1 | cat'):
         status, out, said = run(['sh', '-c', words], cwd=TOP)
         same(words, (status, out, said), (0, b'line kind action stamp verdict open\n', ''))
@@ -239,19 +252,23 @@ def children(pid):
 
 def listing_live(folder):
     """Each line is there before the next record comes; a program that dies is noticed; a signal ends both."""
-    live_lines([LISTING], None, ['line kind action stamp verdict open\n', '1 I 0 100 clear 1\n', '2 O 2 120 suspect 1\n'])
+    header, made = 'line kind action stamp verdict open\n', Folder(folder)
+    live_lines([LISTING], None, [header, '1 I 0 100 clear 1\n', '2 O 2 120 suspect 1\n'])
+    live_lines([made.listing, '--tap'], made.environment(), [header, '1 I 0 4294967286 clear 1\n', '2 O 2 4294967306 suspect 1\n'],
+               [pack_tap(INPUT, 0, 4_294_967_286), pack_tap(OUTPUT, 2, 10), TAP_END])
 
 
-def live_lines(words, env, want):
+def live_lines(words, env, want, records=(pack_record(INPUT, 0, 100), pack_record(OUTPUT, 2, 20), END_RECORD)):
+    """Two records, and the end."""
     for end in ('end', 'killed', 'signal'):
         with started(words, env=env, stdin=subprocess.PIPE, stderr=subprocess.PIPE) as live:
-            for part, line in zip((rules.pack_property(B), pack_record(INPUT, 0, 100), pack_record(OUTPUT, 2, 20)), want):
+            for part, line in zip([rules.pack_property(B), *records[:2]], want):
                 live.stdin.write(part)
                 same('a line, before the next record', some_line(live.stdout), line)
             programs = children(live.pid)
             same('the number of programs run', len(programs), 1)
             if end == 'end':
-                live.stdin.write(END_RECORD)
+                live.stdin.write(records[2])
                 same('the last line', some_line(live.stdout), 'end 2\n')
                 same('the status', live.wait(SHORT), 0)
             elif end == 'killed':
@@ -269,20 +286,24 @@ def listing_leaves_input(folder):
     """Bytes behind the end record, behind a refused record and behind a refused property are still in the pipe."""
     made = Folder(folder)
     form = rules.pack_property(B)
-    command = shlex.split(run([LISTING, '--command'])[1].decode())
+    commands = [shlex.split(run([LISTING, *words, '--command'])[1].decode()) for words in ([], ['--tap'])]
     behind = b'not to be read'
-    for data, last in ((form + END_RECORD, 'end 0'),
-                       (form + pack_record(INPUT, 0, 100) + END_RECORD, 'end 1'),
-                       (form + pack_record(INPUT, 0, 100) + pack_record(GAP, 1, 0), 'stop 1 8'),
-                       (form + pack_record(END, 0, 1), 'stop 0 8'),
-                       (form + pack_record(INPUT, 0, LIMIT) + pack_record(OUTPUT, 0, 1), 'stop 1 4'),
-                       (form + pack_record(INPUT, 0, 0) * 65, 'stop 64 6'),
-                       (form[:-1] + b'\1', 'stop 0 8'),
-                       (b'\0' * 16, 'stop 0 1'),
-                       (rules.pack_property(B, 33), 'stop 0 1'),
-                       (rules.pack_property(B._replace(lb=31)), 'stop 0 2')):
-        for words in ([made.listing], [made.listing, '--names', SITE, RELEASE], command):
-            leaves_input(words, made.environment(), data, behind, last)
+    ordinary = [made.listing], [made.listing, '--names', SITE, RELEASE], commands[0]
+    for programs, pack, end, past, taken in (
+            (ordinary, pack_record, END_RECORD, pack_record(INPUT, 0, LIMIT) + pack_record(OUTPUT, 0, 1), 1),
+            (([made.listing, '--tap'], commands[1]), pack_tap, TAP_END, card_at_limit() + pack_tap(OUTPUT, 0, 0), 257)):
+        for data, last in ((form + end, 'end 0'),
+                           (form + pack(INPUT, 0, 100) + end, 'end 1'),
+                           (form + pack(INPUT, 0, 100) + pack(GAP, 1, 0), 'stop 1 8'),
+                           (form + pack(END, 0, 1), 'stop 0 8'),
+                           (form + past, f'stop {taken} 4'),
+                           (form + pack(INPUT, 0, 0) * 65, 'stop 64 6'),
+                           (form[:-1] + b'\1', 'stop 0 8'),
+                           (b'\0' * 16, 'stop 0 1'),
+                           (rules.pack_property(B, 33), 'stop 0 1'),
+                           (rules.pack_property(B._replace(lb=31)), 'stop 0 2')):
+            for words in programs:
+                leaves_input(words, made.environment(), data, behind, last)
     # of a log behind a broken list nothing is read
     broken = file_of(folder, 'broken', b'\0\1 ')
     for site, release, last in ((broken, RELEASE, 'stop 0 11'), (SITE, broken, 'stop 0 12')):
@@ -306,7 +327,7 @@ class Folder:
     def __init__(self, folder):
         self.top = os.path.join(folder, 'a folder')
         self.listing = os.path.join(self.top, 'tools', 'listing')
-        self.program, self.named_program = (os.path.join(self.top, 'target', 'bin', name) for name in ('listing', 'named_listing'))
+        self.program, self.named_program, self.tap_program = (os.path.join(self.top, 'target', 'bin', name) for name in PROGRAMS)
         self.logs = os.path.join(self.top, 'logs')
         self.asked = os.path.join(self.top, 'asked')
         self.said = os.path.join(self.top, 'said')
@@ -320,6 +341,7 @@ class Folder:
     def build(self):
         shutil.copy(PROGRAM, self.program)
         shutil.copy(NAMED_PROGRAM, self.named_program)
+        shutil.copy(TAP_PROGRAM, self.tap_program)
 
     def play(self, lines=(), status=0, more=':'):
         """What rt check says, its status, and what else it does. It reads all of its standard input, which must not be the
@@ -532,28 +554,34 @@ def listing_names_builds(folder):
         status, out, said = made.run('--names', SITE, RELEASE, log)
         same(f'{log}: status, output, rt check', (status, out, made.times_asked()), (2, b'', 0))
         message(log, said, log)
-    # neither needs the other
+    builds_one(made, ['--names', SITE, RELEASE, SWITCH], NAMED_SWITCH, NAMED_PROGRAM, made.named_program)
+
+
+def builds_one(made, words, want, built, program):
+    """A sample that needs this program and no other, and the first program without it."""
+    name = os.path.basename(program)
+    asked = f'echo "$*" >>{shlex.quote(made.asked)}'
     os.remove(made.program)
-    same('the sample with names', made.run('--names', SITE, RELEASE, SWITCH), (0, NAMED_SWITCH, ''))
-    same('rt check', made.times_asked('named_listing'), 1)
+    same(f'the sample by {name}', made.run(*words), (0, want, ''))
+    same('rt check', made.times_asked(name), 1)
     made.build()
-    os.remove(made.named_program)
-    same('the sample without names', made.run(SWITCH)[0], 0)
+    os.remove(program)
+    same(f'a sample without {name}', made.run(SWITCH)[0], 0)
     same('rt check', made.times_asked(), 1)
-    made.play(PROVED, more=f'{asked}; cp {shlex.quote(NAMED_PROGRAM)} {shlex.quote(made.named_program)}')
+    made.play(PROVED, more=f'{asked}; cp {shlex.quote(built)} {shlex.quote(program)}')
     for text in ('proving and building the program first, which takes some minutes', 'the sources have changed'):
-        status, out, said = made.run('--names', SITE, RELEASE, SWITCH)
-        same('the listing of a program built anew', (status, out), (0, NAMED_SWITCH))
+        status, out, said = made.run(*words)
+        same('the listing of a program built anew', (status, out), (0, want))
         message('the program is built', said, text, 'rt: meaning proved (2 s)\n')
-    same('rt check', made.times_asked('named_listing'), 2)
-    made.play(['rt: names NOT PROVED (exit 1, 3 s)'], 1)
-    status, out, said = made.run('--names', SITE, RELEASE, SWITCH)
+    same('rt check', made.times_asked(name), 2)
+    made.play(['rt: fields NOT PROVED (exit 1, 3 s)'], 1)
+    status, out, said = made.run(*words)
     same('status and output where rt check fails', (status, out), (2, b''))
-    message('rt check fails', said, 'names NOT PROVED', 'status 1')
-    os.remove(made.named_program)
-    status, out, said = made.run('--names', SITE, RELEASE, SWITCH, rt=False)
+    message('rt check fails', said, 'fields NOT PROVED', 'status 1')
+    os.remove(program)
+    status, out, said = made.run(*words, rt=False)
     same('without rt and program', (status, out), (2, b''))
-    message('without rt and program', said, 'named_listing', 'no rt on the PATH')
+    message('without rt and program', said, name, 'no rt on the PATH')
 
 
 def listing_names_live(folder):
@@ -587,6 +615,55 @@ def listing_names_live(folder):
             os.close(writer)
             same('the last line of a log cut short', some_line(lister.stdout), 'stop 1 7\n')
             same('its status', lister.wait(SHORT), 1)
+
+
+CARD_LISTING = '''\
+line kind action stamp verdict open
+1 I 1 4294100000 clear 1
+2 O 2 4294131000 clear 1
+3 I 0 4294960000 clear 1
+4 O 0 4295050000 clear 0
+5 O 2 4295050400 certain 0
+6 G 0 4295500000 blind 0
+7 I 0 8589930000 clear 1
+8 I 2 8589935000 clear 2
+9 O 0 8589990000 clear 2
+10 O 2 8589991000 suspect 2
+end 10
+'''.encode()
+
+
+def listing_tap(folder):
+    """The card's sample in full, also with names and without --tap by way of its text; arguments first, then rt check."""
+    made = Folder(folder)
+    card = contents(CARD)
+    same('the sample of the card', made.run('--tap', CARD), (0, CARD_LISTING, ''))
+    same('its bytes from standard input', made.run('--tap', data=card), (0, CARD_LISTING, ''))
+    same('a part of it', made.run('--tap', data=card[:-6]), (1, CARD_LISTING.replace(b'end 10', b'stop 9 7').replace(
+        b'10 O 2 8589991000 suspect 2\n', b''), ''))
+    ordinary = run([PACK], run([UNPACK, '--tap', CARD])[1])[1]
+    same('an ordinary log of it', made.run(data=ordinary), (0, CARD_LISTING, ''))
+    same('with names', made.run('--names', SITE, RELEASE, data=ordinary)[1].decode().split('\n')[3:6],
+         ['3 I 0 switch 4294960000 clear 1', '4 O 0 acknowledged 4295050000 clear 0', '5 O 2 old-tile 4295050400 certain 0'])
+    status, out, said = made.run('--tap', '/proc/self/mem')
+    same('a log that cannot be read', (status, out.split(b'\n')[1:], said), (1, [b'stop 0 7', b''], ''))
+    made.play(UNCHANGED, more=f'echo "$*" >>{shlex.quote(made.asked)}')
+    for words in (['--tap', '--nonsense'], ['--tap', CARD, CARD], ['--tap', '-'], [CARD, '--tap'], ['--tap', '--tap'],
+                  ['--tap', '--help'], ['--tap', '--names', SITE, RELEASE], ['--tap', '--names', SITE, RELEASE, CARD],
+                  ['--names', SITE, RELEASE, '--tap'], ['--names', '--tap', SITE, RELEASE], ['--command', '--tap'],
+                  ['--tap', '--command', CARD]):
+        status, out, said = made.run(*words)
+        same(f'{words}: status, output, rt check', (status, out, made.times_asked()), (2, b'', 0))
+        message(str(words), said, 'usage: tools/listing [FILE]', 'tools/listing --tap [FILE]')
+    for log in ('no such file', '/'):
+        status, out, said = made.run('--tap', log)
+        same(f'{log}: status, output, rt check', (status, out, made.times_asked()), (2, b'', 0))
+        message(log, said, log)
+    status, out, said = made.run('--tap', '--command')
+    words = shlex.split(out.decode())
+    same('the command', (status, words[-1], said, made.times_asked('tap_listing')), (0, made.tap_program, '', 1))
+    same('the command, run', run(words, card)[:2], (0, CARD_LISTING))
+    builds_one(made, ['--tap', CARD], CARD_LISTING, TAP_PROGRAM, made.tap_program)
 
 
 def names_text(folder):
@@ -658,7 +735,9 @@ def pack_output(folder):
             same('status when the reader goes', packer.wait(PATIENCE), 2)
             message('a reader that goes', packer.stderr.read().decode(), 'not everything could be written')
     for words in ([PACK, '--nonsense'], [PACK, 'a', 'b'], [PACK, '--origin'], [PACK, '--origin', 'x'], [UNPACK, '-'], [UNPACK, 'a', 'b'],
-                  [PACK, 'no such file'], [UNPACK, 'no such file'], [PACK, TOP], [UNPACK, TOP], [PACK, '--property', '--trace']):
+                  [PACK, 'no such file'], [UNPACK, 'no such file'], [PACK, TOP], [UNPACK, TOP], [PACK, '--property', '--trace'],
+                  [UNPACK, '--property', '--trace'], [UNPACK, '--tap', '--trace', '--property'], [UNPACK, '--tap', 'a', 'b'],
+                  [UNPACK, '--tap', '--nonsense'], [PACK, '--tap', '--nonsense'], [PACK, '--tap', 'a', 'b']):
         status, out, said = run(words, cwd=folder)
         same(f'{words}: status and output', (status, out), (2, b''))
         message(str(words), said)
@@ -671,15 +750,16 @@ def pack_text(folder):
     plain = TEXT + b'?0 @100\n!2 @161\n'
     form = rules.pack_property(B)
     want = form + pack_record(INPUT, 0, 100) + pack_record(OUTPUT, 2, 61) + END_RECORD
+    card = form + pack_tap(INPUT, 0, 100) + pack_tap(OUTPUT, 2, 161) + TAP_END
     day = 1_760_000_000_000_000
     late = TEXT + b'?0 @%d\n!2 @%d\n' % (day + 100, day + 161)
-    for more in ([], ['--follow']):
+    for more, packed in (([], want), (['--follow'], want), (['--follow', '--tap'], card)):
         for what, words, text in (('plain', [], plain), ('a byte-order mark', [], MARK + plain), ('CRLF', [], plain.replace(b'\n', b'\r\n')),
                                   ('both', [], MARK + plain.replace(b'\n', b'\r\n')), ('no line end at the end', [], plain[:-1]),
                                   ('an origin', [], b'origin %d\n' % day + late), ('--origin', ['--origin', str(day)], late),
                                   ('an origin behind the property', [], late.replace(b'?0 @', b'origin %d\n?0 @' % day)),
                                   ('origin 0', ['--origin', '0'], plain), ('an end', [], plain + b'end\n')):
-            same(f'{what} {more}', run([PACK] + words + more, text), (0, want, ''))
+            same(f'{what} {more}', run([PACK] + words + more, text), (0, packed, ''))
     same('--property', run([PACK, '--property'], plain), (0, form, ''))
     same('--trace', run([PACK, '--trace'], plain), (0, want[len(form):], ''))
     same('--trace without a property', run([PACK, '--trace', '--origin', '5'], b'?0 @105\n'),
@@ -704,32 +784,40 @@ def pack_text(folder):
         message(str(told), said, *told)
 
 
-def pack_follow(folder):
+def follow(*words):
+    return started([PACK, '--follow'] + list(words), stdin=subprocess.PIPE, stderr=subprocess.PIPE)
+
+
+def follow_lines(words, lines, bad, last):
+    """Lines with their records, then an end of the input, an end of the text or bad text."""
     form = rules.pack_property(B)
-
-    def follow(*words):
-        return started([PACK, '--follow'] + list(words), stdin=subprocess.PIPE, stderr=subprocess.PIPE)
-
-    for end in (b'', b'end\n', b'!2 @160\n', b'nonsense\n'):
-        with follow() as live:
+    for end in (b'', b'end\n', *bad):
+        with follow(*words) as live:
             live.stdin.write(b'# as it comes\nallow !1\nbounds 10 30\nseq')
             live.stdin.write(b'uence ?0\n')
             same('the property, before the first line', some_bytes(live.stdout, len(form)), form)
-            for text, record in ((b'?0 @100\n', pack_record(INPUT, 0, 100)), (b'gap @100\r\n', pack_record(GAP, 0, 0)), (b'!2 @161\n', pack_record(OUTPUT, 2, 61))):
+            for text, record in lines:
                 live.stdin.write(text)
-                same('a record, before the next line', some_bytes(live.stdout, 6), record)
+                same('a record, before the next line', some_bytes(live.stdout, len(record)), record)
             live.stdin.write(end)
             if not end:
                 live.stdin.close()
-            bad = end not in (b'', b'end\n')
             # what ends it does so while its input is open
-            same(f'status after {end!r}', live.wait(SHORT), int(bad))
-            same(f'what comes last after {end!r}', live.stdout.read(), b'' if bad else END_RECORD)
+            same(f'status after {end!r}', live.wait(SHORT), int(end in bad))
+            same(f'what comes last after {end!r}', live.stdout.read(), b'' if end in bad else last)
             said = live.stderr.read().decode()
-            if bad:
+            if end in bad:
                 message('bad text', said, 'pack: line 8: ')
             else:
                 same('messages', said, '')
+
+
+def pack_follow(folder):
+    follow_lines([], ((b'?0 @100\n', pack_record(INPUT, 0, 100)), (b'gap @100\r\n', pack_record(GAP, 0, 0)),
+                      (b'!2 @161\n', pack_record(OUTPUT, 2, 61))), (b'!2 @160\n', b'nonsense\n'), END_RECORD)
+    follow_lines(['--tap'], ((b'?0 @4294967290\n', pack_tap(INPUT, 0, 4_294_967_290)),
+                             (b'gap @4294967290\r\n', pack_tap(GAP, 0, 4_294_967_290)),
+                             (b'!2 @4294967300\n', pack_tap(OUTPUT, 2, 4))), (b'!2 @4294967299\n', b'!2 @8589934596\n'), TAP_END)
     # memory: the highest seen, before the input ends
     highest = {}
     for lines in (1000, 100_000):
@@ -747,16 +835,56 @@ def pack_follow(folder):
             same('the bytes of a long log', taken, [6 * (lines + 1)])
     holds(f'memory grows with the log: {highest}', highest[100_000] < highest[1000] + 3000)
     # a log that grows, all the way to its verdicts
-    with follow() as packer, started([LISTING], stdin=packer.stdout) as lister:
-        packer.stdout.close()
-        packer.stdin.write(TEXT)
-        same('the header', some_line(lister.stdout), 'line kind action stamp verdict open\n')
-        for text, line in ((b'?0 @100\n', '1 I 0 100 clear 1\n'), (b'!2 @161\n', '2 O 2 161 certain 0\n')):
-            packer.stdin.write(text)
-            same('a line of a growing log', some_line(lister.stdout), line)
-        packer.stdin.close()
-        same('its last line', some_line(lister.stdout), 'end 2\n')
-        same('their statuses', (packer.wait(SHORT), lister.wait(SHORT)), (0, 0))
+    for words, first, second in (([], 100, 161), (['--tap'], 4_294_967_290, 4_294_967_351)):
+        with follow(*words) as packer, started([LISTING] + words, stdin=packer.stdout) as lister:
+            packer.stdout.close()
+            packer.stdin.write(TEXT)
+            same('the header', some_line(lister.stdout), 'line kind action stamp verdict open\n')
+            for text, line in ((b'?0 @%d\n' % first, f'1 I 0 {first} clear 1\n'),
+                               (b'!2 @%d\n' % second, f'2 O 2 {second} certain 0\n')):
+                packer.stdin.write(text)
+                same('a line of a growing log', some_line(lister.stdout), line)
+            packer.stdin.close()
+            same('its last line', some_line(lister.stdout), 'end 2\n')
+            same('their statuses', (packer.wait(SHORT), lister.wait(SHORT)), (0, 0))
+
+
+def pack_card(folder):
+    """What the card can say and what not, at both sides of each edge."""
+    def text_of(lines, origin=0):
+        return b''.join(b'%s @%d\n' % (act.encode(), origin + int(stamp)) for act, stamp in map(str.split, lines.split(', ')))
+
+    form, day = rules.pack_property(B), 1_760_000_000_000_000
+    same('the sample of the card', run([PACK, '--tap', CARD_TEXT]), (0, contents(CARD), ''))
+    for lines, records in (('?0 0', '00 00000000'), ('?0 4294967295', '00 FFFFFFFF'), ('gap 4294967295', '80 FFFFFFFF'),
+                           ('!63 5, ?63 4294967300', '7F 00000005 3F 00000004'),
+                           ('?1 4294967295, !1 4294967296, !1 4294967296', '01 FFFFFFFF 41 00000000 41 00000000'),
+                           ('gap 4294967295, gap 8589934590, !2 8589934596', '80 FFFFFFFF 80 FFFFFFFE 42 00000004')):
+        want = bytes.fromhex(records + 'C0 00000000')
+        same(lines, run([PACK, '--tap'], TEXT + text_of(lines)), (0, form + want, ''))
+        same(f'{lines}, an origin', run([PACK, '--tap', '--trace', '--origin', str(day)], text_of(lines, day)), (0, want, ''))
+        same(f'{lines}, back', run([UNPACK, '--tap', '--trace'], want), (0, text_of(lines) + b'end\n', ''))
+    first = ['4294967295 ', 'first stamp', "'origin N'", '--origin N']
+    later = ['4294967295 ', 'is 4294967296 above the one before it', 'Leave out --tap', 'gap mark']
+    for lines, line, told, before in (('?0 4294967296', 6, first, ''), ('gap 4294967296', 6, first, ''),
+                                      (f'!0 {LIMIT}', 6, first, ''), ('?0 5, !1 4294967301', 7, later, '00 00000005'),
+                                      ('?0 0, gap 4294967296', 7, later, '00 00000000'),
+                                      (f'?0 1, !1 {LIMIT}', 7, ['is 1099511627774 above'], '00 00000001'),
+                                      ('?0 4294967295, !1 4294967296, !2 8589934592', 8, later, '00 FFFFFFFF 41 00000000')):
+        text = TEXT + b'# as the card sends it\n\n' + text_of(lines)
+        for given in (text, b'origin %d\n' % day + TEXT + b'\n' + text_of(lines, day)):
+            status, out, said = run([PACK, '--tap'], given)
+            same(f'{lines}: status and output', (status, out), (1, b''))
+            message(lines, said, f'pack: line {line}: ', *told)
+        same(f'{lines}, followed', run([PACK, '--tap', '--follow'], text), (1, form + bytes.fromhex(before), said))
+        # without --tap it can be said, and a property has no lines
+        same(f'{lines} without --tap', run([PACK], text)[0], 0)
+        same(f'{lines}, the property alone', run([PACK, '--tap', '--property'], text), (0, form, ''))
+    for words, lines, told in (([], f'?0 {LIMIT + 1}', ['line 4: ', '12.7 days']), ([], '?0 5, !1 4', ['line 5: ', 'falls: 5 ']),
+                               (['--origin', '101'], '?0 100', ['line 4: ', 'below the origin, 101'])):
+        status, out, said = run([PACK, '--tap'] + words, TEXT + text_of(lines))
+        same(f'{lines}: status and output', (status, out), (1, b''))
+        message(lines, said, *told)
 
 
 def unpack_back(folder):
@@ -775,13 +903,25 @@ def unpack_back(folder):
         status, text, said = run([UNPACK], data)
         same('unpacking', (status, said), (0, ''))
         same(f'the way there and back of {data[:60].hex()}', run([PACK], text), (0, data, ''))
-    for data in forms[:3]:
+        # the last is not for the card
+        if data != forms[-1]:
+            sent = logs.as_card(data)
+            same("unpacking the card's", run([UNPACK, '--tap'], sent), (0, text, ''))
+            same(f"the way there and back of the card's {sent[:60].hex()}", run([PACK, '--tap'], text), (0, sent, ''))
+    card, sent = ['--tap'], logs.as_card(run([PACK, CARD_TEXT])[1])
+    same('the sample of the card', sent, contents(CARD))
+    for words, data in [([], data) for data in forms[:3]] + [(card, sent)]:
         _, _, size = rules.read_property(data)
         for part, some in (('--property', data[:size]), ('--trace', data[size:])):
-            status, text, said = run([UNPACK, part], some)
+            status, text, said = run([UNPACK, part] + words, some)
             same('unpacking a part', (status, said), (0, ''))
-            same(f'the way there and back of a {part}', run([PACK, part], text), (0, some, ''))
+            same(f'the way there and back of a {part}', run([PACK, part] + words, text), (0, some, ''))
     form, made = rules.pack_property(B), Folder(folder)
+    limit = card_at_limit()
+    status, text, said = run([UNPACK, '--tap', '--trace'], limit + TAP_END)
+    same('the card at the limit', (status, text.decode().split()[-5:], said),
+         (0, ['gap', '@1099511627520', 'gap', '@1099511627775', 'end'], ''))
+    same('the card at the limit, back', run([PACK, '--tap', '--trace'], text), (0, limit + TAP_END, ''))
     for words, data, told in (([], b'', 'refusal 7: '), ([], form[:-1], 'refusal 7: '), ([], form, 'refusal 7: record 1, at byte 17'),
                               ([], form + END_RECORD[:5], 'refusal 7: record 1, at byte 17'), ([], form[:-1] + b'\1' + END_RECORD, 'refusal 8: '),
                               ([], b'\0' * 16 + END_RECORD, 'refusal 1: '), ([], rules.pack_property(B, 33) + END_RECORD, 'refusal 1: '),
@@ -791,13 +931,27 @@ def unpack_back(folder):
                               ([], form + pack_record(END, 1, 0), 'refusal 8: record 1'), ([], form + pack_record(END, 0, 1), 'refusal 8: record 1'),
                               ([], form + pack_record(INPUT, 0, LIMIT) + pack_record(INPUT, 0, 1) + END_RECORD, 'refusal 4: record 2'),
                               ([], form + END_RECORD + b'\0', 'refusal 8: 1 bytes stand behind the end record'),
-                              (['--property'], form + b'\0', 'refusal 8: 1 bytes stand behind the property'), (['--trace'], b'', 'refusal 7: record 1')):
+                              (['--property'], form + b'\0', 'refusal 8: 1 bytes stand behind the property'),
+                              (['--trace'], b'', 'refusal 7: record 1'),
+                              (card, b'', 'refusal 7: '), (card, form, 'refusal 7: record 1, at byte 17'),
+                              (card, form + TAP_END[:4], 'refusal 7: record 1, at byte 17'),
+                              (card, form[:-1] + b'\1' + TAP_END, 'refusal 8: '),
+                              (card, form + pack_tap(INPUT, 0, 5) + pack_tap(GAP, 0, 4)[:4], 'refusal 7: record 2, at byte 22'),
+                              (card, form + pack_tap(INPUT, 0, 5) + pack_tap(GAP, 1, 4), 'refusal 8: record 2, at byte 22'),
+                              (card, form + pack_tap(END, 1, 0), 'refusal 8: record 1'),
+                              (card, form + pack_tap(END, 0, 1), 'refusal 8: record 1'),
+                              (card, form + limit + pack_tap(INPUT, 0, 0) + TAP_END, 'refusal 4: record 258'),
+                              (card, form + limit + pack_tap(GAP, 0, 4_294_967_294), 'refusal 4: record 258'),
+                              (card, form + limit + pack_tap(GAP, 1, 0), 'refusal 8: record 258'),
+                              (card, form + TAP_END + b'\0', 'refusal 8: 1 bytes stand behind the end record'),
+                              (card + ['--property'], form + b'\0', 'refusal 8: 1 bytes stand behind the property'),
+                              (['--trace'] + card, TAP_END[:4], 'refusal 7: record 1')):
         status, out, said = run([UNPACK] + words, data)
         same(f'{told}: status and output', (status, out), (1, b''))
         message(told, said, told)
         # and the watcher says so too, as far as its program reads
-        if not words and 'behind' not in told:
-            same(f'the listing of {told}', made.run(data=data)[1].decode().split()[-1], told.split()[1][:-1])
+        if words in ([], card) and 'behind' not in told:
+            same(f'the listing of {told}', made.run(*words, data=data)[1].decode().split()[-1], told.split()[1][:-1])
 
 
 def readme(folder):
@@ -833,8 +987,8 @@ def rules_cited(folder):
 
 
 PARTS = [listing_status, listing_long, listing_lost_output, listing_slow_reader, listing_live, listing_leaves_input, listing_builds,
-         listing_names, listing_names_lists, listing_names_builds, listing_names_live, names_text, names_output, pack_output, pack_text,
-         pack_follow, unpack_back, readme, rules_cited]
+         listing_names, listing_names_lists, listing_names_builds, listing_names_live, listing_tap, names_text, names_output,
+         pack_output, pack_text, pack_follow, pack_card, unpack_back, readme, rules_cited]
 
 
 def main(names):
@@ -842,7 +996,8 @@ def main(names):
     if unknown:
         sys.exit(f'tools: there is no part {", ".join(sorted(unknown))}')
     # builds the programs if they are not there
-    subprocess.run([LISTING, '--command'], stdout=subprocess.DEVNULL, check=True)
+    for words in ([], ['--tap']):
+        subprocess.run([LISTING, *words, '--command'], stdout=subprocess.DEVNULL, check=True)
     if subprocess.run([LISTING, '--names', os.devnull, os.devnull, os.devnull], stdout=subprocess.DEVNULL).returncode != 1:
         sys.exit('tools: there is no program that lists with names')
     for part in PARTS:

@@ -12,6 +12,8 @@ HIGHEST_BOUND = 60_000_000
 HIGHEST_STAMP = 2**40 - 1
 INPUT, OUTPUT, GAP, END = range(4)
 RECORD = 6
+TAP_RECORD = 5
+TURN = 2**32  # the card's counter returns to 0 there
 LONGEST_LINE = 65536  # bytes, so that a text without line ends does not fill the memory
 BYTE_ORDER_MARK = b'\xef\xbb\xbf'
 
