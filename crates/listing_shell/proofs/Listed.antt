@@ -1,17 +1,21 @@
 -- A record that was read by its form's reader adds what it stands for.
 use Prim.Native.Nat.{ℕ, _≤_}
-use mathlib.Core.Path.{sym, subst}
+use mathlib.Core.Path.{subst}
 use mathlib.Core.List.{List}
 use native.Mathlib.Omega.{arith}
 use lib.ListN.{length, take, length-take}
 use Rattle.record_form.specs.declared.RecordRead.{RecordRead}
 use Rattle.record_form.specs.Record.{ReadBy}
-use Rattle.record_form.specs.ReadAs.{ReadAs, case-as}
-use Rattle.record_form.proofs.ReadAs.{read-case}
+use Rattle.record_form.specs.ReadAs.{case-as}
 use Rattle.session_record.specs.declared.Session.{Session}
 use Rattle.session_record.specs.Record.{latest-of}
+use Rattle.session_record.specs.Lent.{Ready}
+use Rattle.printout.specs.Text.{room}
+use Rattle.printed.specs.declared.Printed.{Printed}
 use Rattle.printed.specs.declared.lent.Added.{Added}
 use Rattle.printed.specs.Lent.{Adds}
+use Rattle.printed.proofs.Fits.{printed-fits}
+use Rattle.printed.proofs.Listed.{read-adds}
 use Rattle.listing_shell.specs.declared.Form.{Form}
 use Rattle.listing_shell.specs.Form.{size-of, reader-of, Lists}
 
@@ -19,7 +23,16 @@ use Rattle.listing_shell.specs.Form.{size-of, reader-of, Lists}
 pub front-few : (n : ℕ) (bytes : List ℕ) (most : ℕ) → n ≤ most → length (take n bytes) ≤ most
 front-few n bytes most h = omega (arith, length-take n bytes, h)
 
-pub lists : (form : Form) (s : Session) {count : ℕ} {bytes : List ℕ} {read : RecordRead} {r : Added} {after : Session} → ReadBy (reader-of form) bytes (latest-of s) read
-    → length bytes ≤ size-of form → Adds s count (case-as read) r after → Lists form s count r after
-lists form s {count} {bytes} {read} {r} {after} h few a =
-    record { bytes = bytes; few = few; adds = subst (λ (x : ReadAs). Adds s count x r after) (sym (read-case h)) a }
+pub lists : (form : Form) (s : Session) {count : ℕ} {bytes : List ℕ} {read : RecordRead} {r : Added} {after : Session} → Ready s
+    → ReadBy (reader-of form) bytes (latest-of s) read → length bytes ≤ size-of form → Adds s count (case-as read) r after → Lists form s count r after
+lists form s {count} {bytes} {read} {r} {after} is-ready h few a =
+    record {
+      bytes = bytes;
+      few = few;
+      adds = read-adds (reader-of form) s count bytes (is-ready .fits) h a;
+      ready = a .ready;
+    }
+
+-- and its text fits
+pub lists-fits : {form : Form} {s : Session} {count : ℕ} {r : Added} {after : Session} → Lists form s count r after → r .text .len ≤ room
+lists-fits {form} {s} {count} h = subst (λ (p : Printed). p .text .len ≤ room) (h .adds) (printed-fits (reader-of form) s count (h .bytes))

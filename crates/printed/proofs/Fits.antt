@@ -1,22 +1,19 @@
 -- Whatever the input, a text that is added to the listing fits its room: what a caller needs to write it out.
 use Prim.Native.Nat.{ℕ, zero, suc, _≤_}
-use mathlib.Core.Path.{subst}
 use mathlib.Core.Bool.{Bool, true, false, cond}
 use mathlib.Core.List.{List}
 use native.Mathlib.Omega.{arith}
 use lib.ListN.{length}
 use Rattle.meaning.specs.Calls.{Call}
 use Rattle.session_record.specs.declared.Session.{Session}
-use Rattle.session_record.specs.Record.{out-of-range}
+use Rattle.session_record.specs.Record.{latest-of, out-of-range}
 use Rattle.property_form.specs.Read.{read}
-use Rattle.record_form.specs.ReadAs.{ReadAs}
-use Rattle.walk.specs.Walk.{One, one-read, one-of}
+use Rattle.record_form.specs.Record.{Reader}
+use Rattle.record_form.specs.ReadAs.{read-as}
+use Rattle.walk.specs.Walk.{One, one-read}
 use Rattle.printout.specs.Text.{room, stop-text}
 use Rattle.printout.proofs.Fits.{text-len, line-fits, end-fits, stop-fits}
-use Rattle.printed.specs.declared.Printed.{Printed}
-use Rattle.printed.specs.declared.lent.Added.{Added}
-use Rattle.printed.specs.Lent.{Adds}
-use Rattle.printed.specs.Printed.{call-text, last-line, by-one, printed-by, printed-of, opening-text, begun-of}
+use Rattle.printed.specs.Printed.{call-text, last-line, by-one, printed-by, opening-text, begun-of}
 
 call-fits : (number : ℕ) (c : Call) (after : Session) → length (call-text number c after) ≤ room
 unfolding call-text
@@ -29,17 +26,16 @@ by-one-fits s count One.ended = text-len _ (end-fits _)
 by-one-fits s count (One.refused n) = text-len _ (stop-fits _ _)
 by-one-fits s count (One.took c after) = text-len _ (call-fits _ _ _)
 
-pub printed-fits : (s : Session) (count : ℕ) (bytes : List ℕ) → printed-of s count bytes .text .len ≤ room
+pub printed-fits : (reader : Reader) (s : Session) (count : ℕ) (bytes : List ℕ) → printed-by reader s count bytes .text .len ≤ room
 unfolding printed-by
-printed-fits s count bytes = go (out-of-range s)
+printed-fits reader s count bytes = go (out-of-range s)
   where
-    go : (t : Bool) → cond t (last-line s count (stop-text count 10)) (by-one s count (one-of s bytes)) .text .len ≤ room
-    go true = text-len _ (stop-fits count 10)
-    go false = by-one-fits s count (one-of s bytes)
+    one : One
+    one = one-read s (read-as (reader bytes (latest-of s)))
 
--- and what a record on lent arrays adds
-pub added-fits : {s after : Session} {count : ℕ} {x : ReadAs} {r : Added} → Adds s count x r after → r .text .len ≤ room
-added-fits {s} {after} {count} {x} h = subst (λ (p : Printed). p .text .len ≤ room) (h .listed) (by-one-fits s count (one-read s x))
+    go : (t : Bool) → cond t (last-line s count (stop-text count 10)) (by-one s count one) .text .len ≤ room
+    go true = text-len _ (stop-fits count 10)
+    go false = by-one-fits s count one
 
 opening-fits : (n : ℕ) → length (opening-text n) ≤ room
 opening-fits zero = omega arith

@@ -5,8 +5,10 @@ use mathlib.Core.Bool.{Bool, true, false, cond}
 use mathlib.Core.List.{List, []}
 use Rattle.meaning.specs.Calls.{Call, mark-at, unless-refused}
 use Rattle.property.specs.Meant.{action-of}
-use Rattle.record_form.specs.Record.{Reader, gap}
-use Rattle.record_form.specs.ReadAs.{ReadAs, read-as}
+use Rattle.record_form.specs.Record.{Reader, ReadBy, gap}
+use Rattle.record_form.specs.ReadAs.{ReadAs, read-as, case-as}
+use Rattle.record_form.specs.declared.RecordRead.{RecordRead}
+use Rattle.record_form.proofs.ReadAs.{read-case}
 use Rattle.held.specs.declared.Status.{Status}
 use Rattle.cuts.specs.Arrays.{number-of}
 use Rattle.cuts.specs.Steps.{line-of}
@@ -41,6 +43,11 @@ module _ (reader : Reader) (s : Session) (count : ℕ) (bytes : List ℕ) where
   pub not-named : out-of-range s ≡ false → printed-by reader s count bytes ≡ by-one s count one
   unfolding printed-by
   not-named e = ap by-range e
+
+  -- what a record adds that the reader has read
+  pub read-adds : {read : RecordRead} {r : Added} {after : Session} → out-of-range s ≡ false → ReadBy reader bytes (latest-of s) read → Adds s count (case-as read) r after
+      → printed-by reader s count bytes ≡ in-session r after
+  read-adds e h a = not-named e ∙ ap (λ (x : ReadAs). by-one s count (one-read s x)) (read-case h) ∙ a .listed
 
 -- ---- the property
 

@@ -1,6 +1,6 @@
 -- What a record stands for: the reader's case tells it, and so do the entries of a trace; what is refused has a number.
 use Prim.Native.Nat.{ℕ, zero, suc, _+_, _≤_, _<_}
-use mathlib.Core.Path.{_≡_, refl, sym, _∙_, ap, subst}
+use mathlib.Core.Path.{_≡_, refl, sym, _∙_, ap}
 use mathlib.Core.Bool.{Bool, true, false}
 use mathlib.Core.List.{List}
 use native.Mathlib.Omega.{arith}
@@ -13,7 +13,7 @@ use Rattle.record_form.specs.Record
 use Rattle.record_form.specs.Record.{Reader, ReadBy, IsRead, RecordAnswer, case-by, case-of, numbers, read-refusal, record-answer, record-size, refused, taken}
 use Rattle.record_form.specs.Trace.{Entry, entry-call, kind-of, action-of, stamp-of}
 use Rattle.record_form.specs.ReadAs.{ReadAs, case-as, read-as}
-use Rattle.record_form.proofs.Reading.{is-taken, read-fields, read-short, refusal-of, short, taken-answer, unbroken}
+use Rattle.record_form.proofs.Reading.{as-case, is-taken, read-fields, read-short, refusal-of, short, taken-answer, unbroken}
 
 -- What a reader answered is what the record stands for; with the answer's case put in, each by `refl`.
 pub read-case : {reader : Reader} {s : List ℕ} {before : ℕ} {r : RecordRead} → ReadBy reader s before r → read-as (reader s before) ≡ case-as r
@@ -69,12 +69,9 @@ refused-given a n e = go (a .refusal) (a .kind) e
 pub always-read : (s : List ℕ) (before : ℕ) → IsRead s before (case-of (record-answer s before))
 always-read s before = go (ltb (length s) record-size) (ltb-true (length s) record-size) (ltb-false (length s) record-size)
   where
-    known : {r : RecordRead} → IsRead s before r → IsRead s before (case-of (record-answer s before))
-    known h = subst (IsRead s before) (h .answer) h
-
     go : (b : Bool) → (b ≡ true → length s < record-size) → (b ≡ false → record-size ≤ length s) → IsRead s before (case-of (record-answer s before))
-    go true t f = known (read-short s before (t refl))
-    go false t f = known (read-fields s before (field s 0 2) (field s 2 6) (field s 8 40) _ (f refl) refl refl refl refl)
+    go true t f = as-case (read-short s before (t refl))
+    go false t f = as-case (read-fields s before (field s 0 2) (field s 2 6) (field s 8 40) _ (f refl) refl refl refl refl)
 
 -- an end record's stamp is the one before
 pub end-stamp : (s : List ℕ) (before action stamp : ℕ) → record-answer s before ≡ taken Record.end action stamp → stamp ≡ before

@@ -5,15 +5,16 @@ use mathlib.Core.Path.{_≡_, refl, sym, _∙_, ap, subst}
 use mathlib.Core.List.{List}
 use native.Mathlib.Omega.{arith}
 use lib.ListN.{length}
-use lib.Dec.{eqb}
+use lib.Dec.{ltb, eqb}
 use borrow.Author.Tests.{lt-ltb, le-ltb, ltb-false, eqb-true, not-false}
 use Rattle.laws.proofs.Tests.{or-split}
+use Rattle.meaning.specs.Numbers.{given, first-of}
 use Rattle.meaning.proofs.Refusals.{given-none, none-first, unless-taken, unless-kept}
 use Rattle.fields.specs.Fields.{field, bit}
 use Rattle.fields.proofs.Laws.{number-lt, bit-lt}
 use Rattle.record_form.specs.declared.RecordRead.{RecordRead}
 use Rattle.record_form.specs.declared.RecordRead.the-variants.{Refused}
-use Rattle.record_form.specs.Record.{RecordAnswer, numbers, case-of, case-by, taken, refused, answered, broken, stamp-above, fields-refusal, read-refusal, record-answer, IsRead, bytes-read}
+use Rattle.record_form.specs.Record.{Reader, ReadBy, RecordAnswer, numbers, case-of, case-by, taken, refused, answered, broken, stamp-above, fields-refusal, read-refusal, record-answer, IsRead, bytes-read}
 use Rattle.record_form.proofs.Rules.{broken-gap, broken-end, broken-kind}
 
 -- ---- fields
@@ -33,6 +34,31 @@ pub answered-number : (n : ℕ) (a : RecordAnswer) → a .refusal ≡ 0 → answ
 unfolding answered
 answered-number zero a e = e
 answered-number (suc n) a e = refl
+
+-- ---- what a reader of records of a size answers: 7 by the bytes that are there, then the refusals of the fields, then their values
+module _ (size : ℕ) (s : List ℕ) where
+  pub short-by : (number : ℕ) (values : RecordAnswer) → length s < size → answered (first-of (given 7 (ltb (length s) size)) number) values ≡ refused 7
+  unfolding answered
+  short-by number values h = simp (lt-ltb _ _ h)
+
+  pub long-by : (number : ℕ) (values : RecordAnswer) → size ≤ length s
+      → answered (first-of (given 7 (ltb (length s) size)) number) values ≡ answered number values
+  long-by number values h = simp (le-ltb _ _ h)
+
+  pub none-of-three : (bad above : Bool) → first-of (given 7 (ltb (length s) size)) (first-of (given 8 bad) (given 4 above)) ≡ 0
+      → (size ≤ length s) × (bad ≡ false) × (above ≡ false)
+  none-of-three bad above e =
+      let p = none-first 6 _ e in
+      let q = none-first 7 _ (p .1) in
+      (ltb-false _ _ (p .0), q .0, given-none 3 _ (q .1))
+
+-- A case whose numbers are the reader's answer is what the reader promises, and so is the case of the answer itself.
+pub case-read : {reader : Reader} {s : List ℕ} {before : ℕ} {r : RecordRead} (a : RecordAnswer) → r ≡ case-of a → numbers (case-of a) ≡ a → a ≡ reader s before
+    → ReadBy reader s before r
+case-read a e same is = record { answer = e ∙ ap case-of is; in-numbers = ap numbers e ∙ same ∙ is }
+
+pub as-case : {reader : Reader} {s : List ℕ} {before : ℕ} {r : RecordRead} → ReadBy reader s before r → ReadBy reader s before (case-of (reader s before))
+as-case {reader} {s} {before} h = subst (ReadBy reader s before) (h .answer) h
 
 is-zero : (n : ℕ) → not (eqb n 0) ≡ false → n ≡ 0
 is-zero n e = eqb-true n 0 (not-false _ e)
@@ -84,12 +110,12 @@ fields-same-numbers kind action less before h = go (fields-refusal kind action l
 -- ---- bytes
 module _ (s : List ℕ) (before : ℕ) where
   pub short : length s < 6 → record-answer s before ≡ refused 7
-  unfolding record-answer read-refusal answered
-  short h = simp (lt-ltb _ _ h)
+  unfolding record-answer read-refusal
+  short h = short-by 6 s _ _ h
 
   pub long : 6 ≤ length s → record-answer s before ≡ fields-numbers (field s 0 2) (field s 2 6) (field s 8 40) before
   unfolding record-answer read-refusal
-  long h = simp (le-ltb _ _ h)
+  long h = long-by 6 s _ _ h
 
   pub refusal-of : record-answer s before .refusal ≡ read-refusal s before
   unfolding record-answer
@@ -102,11 +128,8 @@ module _ (s : List ℕ) (before : ℕ) where
     pub in-range : stamp-above (before + field s 8 40) before ≡ false
 
   pub is-taken : read-refusal s before ≡ 0 → Readable
-  unfolding read-refusal
-  is-taken e =
-      let p = none-first 6 _ e in
-      let q = none-of-fields _ _ _ _ (p .1) in
-      record { size = ltb-false _ _ (p .0); sound = q .0; in-range = q .1 }
+  unfolding read-refusal fields-refusal
+  is-taken e = let p = none-of-three 6 s _ _ e in record { size = p .0; sound = p .1; in-range = p .2 }
 
   pub taken-answer : read-refusal s before ≡ 0
       → record-answer s before ≡ taken (field s 0 2) (field s 2 6) (before + field s 8 40)
@@ -120,14 +143,11 @@ module _ (s : List ℕ) (before : ℕ) where
   read-fields kind action less r h hk ha hl e =
       let same : fields-numbers kind action less before ≡ record-answer s before = rw (hk, ha, hl) (sym (long h)) in
       let small : kind ≤ 3 = omega (arith, field-lt s 0 2) in
-      record {
-        answer = e ∙ ap case-of same;
-        in-numbers = ap numbers e ∙ fields-same-numbers kind action less before small ∙ same;
-      }
+      case-read (fields-numbers kind action less before) e (fields-same-numbers kind action less before small) same
 
   pub read-short : length s < 6 → IsRead s before (Refused 7)
   unfolding case-by
-  read-short h = let e = short h in record { answer = ap case-of (sym e); in-numbers = sym e }
+  read-short h = case-read (refused 7) refl refl (sym (short h))
 
   -- ---- the rest
   pub size-taken : read-refusal s before ≡ 0 → bytes-read s before ≡ 6

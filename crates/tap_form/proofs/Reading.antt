@@ -2,20 +2,20 @@
 -- wrapped difference, or for an end the counter itself.
 use Prim.Native.Nat.{ℕ, zero, suc, _+_, _<_, _≤_}
 use mathlib.Core.Bool.{Bool, true, false, not, cond, or-true}
-use mathlib.Core.Path.{_≡_, refl, sym, _∙_, ap, subst}
+use mathlib.Core.Path.{_≡_, refl, sym, _∙_, ap}
 use mathlib.Core.List.{List}
 use native.Mathlib.Omega.{arith}
 use lib.ListN.{length}
 use lib.Dec.{eqb}
-use borrow.Author.Tests.{lt-ltb, le-ltb, ltb-false, eqb-true, eq-eqb, ne-eqb}
+use borrow.Author.Tests.{eqb-true, eq-eqb, ne-eqb}
 use Rattle.meaning.specs.Numbers.{given, first-of}
-use Rattle.meaning.proofs.Refusals.{given-none, none-first, unless-taken, unless-kept}
+use Rattle.meaning.proofs.Refusals.{unless-taken, unless-kept}
 use Rattle.fields.specs.Fields.{field}
-use Rattle.record_form.specs.Record.{RecordAnswer, end, numbers, case-of, case-by, taken, refused, answered, broken, stamp-above, fields-refusal}
+use Rattle.record_form.specs.Record.{RecordAnswer, end, case-of, case-by, taken, refused, answered, broken, stamp-above, fields-refusal}
 use Rattle.record_form.specs.declared.RecordRead.{RecordRead}
 use Rattle.record_form.specs.declared.RecordRead.the-variants.{Refused}
 use Rattle.record_form.proofs.Rules.{broken-line, broken-gap, broken-end}
-use Rattle.record_form.proofs.Reading.{field-lt, fields-numbers, fields-same-numbers, answered-number}
+use Rattle.record_form.proofs.Reading.{short-by, long-by, none-of-three, case-read, as-case, field-lt, fields-numbers, fields-same-numbers, answered-number}
 use Rattle.record_form.proofs.Reader.{by-size}
 use Rattle.tap_form.specs.Tap.{tap-size, since, tap-stamp, tap-fields-refusal, tap-refusal, tap-answer, IsTapRead, tap-bytes-read}
 
@@ -82,12 +82,12 @@ module _ (action counter before : ℕ) where
 -- ---- bytes
 module _ (s : List ℕ) (before : ℕ) where
   pub tap-short : length s < 5 → tap-answer s before ≡ refused 7
-  unfolding tap-answer tap-refusal answered
-  tap-short h = simp (lt-ltb _ _ h)
+  unfolding tap-answer tap-refusal
+  tap-short h = short-by 5 s _ _ h
 
   pub tap-long : 5 ≤ length s → tap-answer s before ≡ tap-numbers (field s 0 2) (field s 2 6) (field s 8 32) before
   unfolding tap-answer tap-refusal
-  tap-long h = simp (le-ltb _ _ h)
+  tap-long h = long-by 5 s _ _ h
 
   pub tap-number : tap-answer s before .refusal ≡ tap-refusal s before
   unfolding tap-answer
@@ -101,10 +101,7 @@ module _ (s : List ℕ) (before : ℕ) where
 
   pub tap-is-taken : tap-refusal s before ≡ 0 → TapReadable
   unfolding tap-refusal tap-fields-refusal
-  tap-is-taken e =
-      let p = none-first 6 _ e in
-      let q = none-first 7 _ (p .1) in
-      record { size = ltb-false _ _ (p .0); sound = q .0; in-range = given-none 3 _ (q .1) }
+  tap-is-taken e = let p = none-of-three 5 s _ _ e in record { size = p .0; sound = p .1; in-range = p .2 }
 
   pub tap-taken : tap-refusal s before ≡ 0 → tap-answer s before ≡ taken (field s 0 2) (field s 2 6) (tap-stamp (field s 0 2) (field s 8 32) before)
   unfolding tap-answer answered
@@ -131,24 +128,18 @@ module _ (s : List ℕ) (before : ℕ) where
       let same : tap-numbers kind action counter before ≡ tap-answer s before = rw (hk, ha, hc) (sym (tap-long h)) in
       let small : kind < 4 = omega (arith, field-lt s 0 2) in
       let f = as-record action counter before kind small in
-      record {
-        answer = e ∙ ap case-of same;
-        in-numbers =
-            ap numbers (e ∙ ap case-of (sym f)) ∙ fields-same-numbers kind action (stamp-field kind counter before) before (omega (arith, small)) ∙ f ∙ same;
-      }
+      case-read (fields-numbers kind action (stamp-field kind counter before) before) (e ∙ ap case-of (sym f))
+      (fields-same-numbers kind action (stamp-field kind counter before) before (omega (arith, small))) (f ∙ same)
 
   pub tap-read-short : length s < 5 → IsTapRead s before (Refused 7)
   unfolding case-by
-  tap-read-short h = let e = tap-short h in record { answer = ap case-of (sym e); in-numbers = sym e }
+  tap-read-short h = case-read (refused 7) refl refl (sym (tap-short h))
 
   pub tap-always-read : IsTapRead s before (case-of (tap-answer s before))
   tap-always-read =
       by-size tap-size s
-      (λ h. known (tap-read-fields (field s 0 2) (field s 2 6) (field s 8 32) _ h refl refl refl refl))
-      (λ h. known (tap-read-short h))
-    where
-      known : {r : RecordRead} → IsTapRead s before r → IsTapRead s before (case-of (tap-answer s before))
-      known h = subst (IsTapRead s before) (h .answer) h
+      (λ h. as-case (tap-read-fields (field s 0 2) (field s 2 6) (field s 8 32) _ h refl refl refl refl))
+      (λ h. as-case (tap-read-short h))
 
   -- ---- the rest
   pub tap-size-taken : tap-refusal s before ≡ 0 → tap-bytes-read s before ≡ 5

@@ -56,7 +56,7 @@ record-requires c κs = search needs
 returns : tie.Need-returns
 returns c =
     let got = c .before .before .before .before .before .before .before .before in
-    lists (start c .args .form) (entry c) (c .before .before .before .before .before .read-record .ensures)
+    lists (start c .args .form) (entry c) (start c .pre .0) (c .before .before .before .before .before .read-record .ensures)
     (front-few (got .read-full .result) _ _ (omega (arith, got .read-full .ensures .0, got .read-full .kept .1 .0, slice-aggregate-read-full (got .before), got .before .before .record-size .ensures)))
     (c .«record» .ensures)
 

@@ -2,7 +2,7 @@
 use native.Mathlib.Omega.{arith}
 use Rattle.session_record.specs.Lent.{in-arrays, Ready}
 use Rattle.session_record.proofs.Range.{ranged}
-use Rattle.printed.proofs.Fits.{added-fits}
+use Rattle.listing_shell.proofs.Listed.{lists-fits}
 use Rattle.listing_shell.proofs.records.Statement.{statement}
 use Rattle.listing_shell.proofs.records.Tie as tie
 
@@ -24,7 +24,7 @@ next-requires : tie.Need-next-requires Inv-loop μ-loop
 next-requires c κs = (c .before .before .before .before .before .before .loop .inv, c .before .before .before .before .before .before .before .before .before .before .before .before .table .ensures)
 
 shown-requires : tie.Need-shown-requires Inv-loop μ-loop
-shown-requires c κs = added-fits (c .next .ensures .adds)
+shown-requires c κs = lists-fits (c .next .ensures)
 
 returns : tie.Need-returns Inv-loop μ-loop
 returns c = tt
@@ -36,7 +36,7 @@ loop-less : tie.Need-loop-less Inv-loop μ-loop
 loop-less c = omega arith
 
 loop-again : tie.Need-loop-again Inv-loop μ-loop
-loop-again c = c .before .before .before .next .ensures .adds .ready
+loop-again c = c .before .before .before .next .ensures .ready
 
 returns-2 : tie.Need-returns-2 Inv-loop μ-loop
 returns-2 c = tt

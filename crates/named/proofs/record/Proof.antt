@@ -7,6 +7,7 @@ use denote.Ref.{now}
 use Rattle.meaning.specs.Words.{Action}
 use Rattle.session_record.specs.declared.Session.{Session}
 use Rattle.printout.specs.Text.{room}
+use Rattle.record_form.specs.Record.{record-answer}
 use Rattle.printed.proofs.Fits.{printed-fits}
 use Rattle.printed.specs.declared.Printed.{Printed}
 use Rattle.named.specs.Named.{names-of, named-of}
@@ -53,7 +54,7 @@ returns c =
 unnamed-requires : tie.Need-unnamed-requires
 unnamed-requires c κs =
     let k = c .before .before .before in
-    subst (λ (x : Printed). x .text .len ≤ room) (sym (k .«record» .ensures)) (printed-fits (S k) (count k) (bytes k))
+    subst (λ (x : Printed). x .text .len ≤ room) (sym (k .«record» .ensures)) (printed-fits record-answer (S k) (count k) (bytes k))
 
 returns-2 : tie.Need-returns-2
 unfolding named-of
