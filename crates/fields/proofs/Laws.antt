@@ -3,7 +3,7 @@ use Prim.Native.Nat.{ℕ, zero, suc, _+_, _-_, _*_, _/_, _%_, _^_, _≤_, _<_, z
 use mathlib.Core.Path.{_≡_, refl, sym, ap, ap₂, _∙_, subst}
 use mathlib.Core.Logic.{_⊎_, inl, inr, ⊎-elim}
 use mathlib.Core.List.{List, [], _∷_, _++_, append-assoc, append-nil}
-use native.Mathlib.Nat.{mod-lt, pow-suc, pow-succ', div-div-eq-div-mul, add-zero, add-suc, zero-add, div-one, not-suc-le-zero, le-of-suc-le-suc, eq-or-lt-of-le}
+use native.Mathlib.Nat.{mod-lt, pow-suc, pow-succ', div-div-eq-div-mul, mul-assoc, add-assoc, add-zero, add-suc, zero-add, div-one, not-suc-le-zero, le-of-suc-le-suc, eq-or-lt-of-le}
 use native.Mathlib.Numerals.{add-one}
 use native.Mathlib.Omega.{arith}
 use lib.Dec.{lit<}
@@ -141,6 +141,15 @@ unfolding number
 number-same f g i j zero e = refl
 number-same f g i j (suc k) e =
     ap₂ (λ (x y : ℕ). 2 * x + y) (number-same f g i j k (λ m h. e m (omega arith))) (e k (omega arith))
+
+-- two fields side by side are one: the first, shifted past the second, and the second
+pub number-add : (f : ℕ → ℕ) (i j k : ℕ) → number f i (j + k) ≡ number f i j * 2 ^ k + number f (i + j) k
+unfolding number
+number-add f i j zero = ap (number f i) (add-zero j) ∙ omega arith
+number-add f i j (suc k) =
+    ap (number f i) (add-suc j k)
+    ∙ ap₂ (λ (x y : ℕ). 2 * x + f y) (number-add f i j k) (sym (add-assoc i j k))
+    ∙ omega (arith, ap (λ (x : ℕ). number f i j * x) (pow-suc 2 k), mul-assoc (number f i j) (2 ^ k) 2)
 
 -- a field of one bit is that bit
 pub number-one : (f : ℕ → ℕ) (i : ℕ) → number f i 1 ≡ f i

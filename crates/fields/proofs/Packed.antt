@@ -10,7 +10,7 @@ use lib.Dec.{lit<}
 use lib.ListN.{length, getD, take, drop, set, replicate, length-append, List·getD-append, List·getD-eq-default}
 use lib.Seq.{length-paste-head, take-all, drop-drop, paste, drop-cons, set-at, append-snoc, take-append-seam, take-length, drop-append-add, getD-at, ext-getD, getD-take, length-take-le}
 use Rattle.fields.specs.Fields.{digit, bit, number, field, bits, run, at, packed, size, form, Bits}
-use Rattle.fields.proofs.Laws.{le-or-lt, digit-lt, length-bits, length-run, getD-run, run-same, run-at, digit-number, number-digits, number-same, number-at}
+use Rattle.fields.proofs.Laws.{le-or-lt, digit-lt, length-bits, length-run, getD-run, run-same, run-at, digit-number, number-digits, number-same, number-add, number-at}
 
 -- ---- lists of bits
 
@@ -126,18 +126,26 @@ bit-append s t i h =
 pub field-append : (s t : List ℕ) (i k : ℕ) → i + k ≤ 8 * length s → field (s ++ t) i k ≡ field s i k
 field-append s t i k h = number-same (bit (s ++ t)) (bit s) i i k (λ m l. bit-append s t (i + m) (omega arith))
 
+-- the field of a byte's eight bits is the byte
+pub field-byte : (s : List ℕ) (j : ℕ) → getD s j 0 < 256 → field s (8 * j) 8 ≡ getD s j 0
+unfolding bit
+field-byte s j b =
+    number-digits (bit s) (8 * j) 8 (getD s j 0) b
+    (λ m lm.
+    ap₂ (λ (x y : ℕ). digit (getD s x 0) y) (omega arith) (omega arith))
+
+-- a field that begins with a whole byte is that byte, shifted past the bits behind it, and their field
+pub field-byte-first : (s : List ℕ) (j k : ℕ) → getD s j 0 < 256 → field s (8 * j) (8 + k) ≡ getD s j 0 * 2 ^ k + field s (8 * j + 8) k
+field-byte-first s j k b =
+    number-add (bit s) (8 * j) 8 k ∙ ap (λ (x : ℕ). x * 2 ^ k + field s (8 * j + 8) k) (field-byte s j b)
+
 -- bytes back: bytes are the packing of their bits
 pub packed-bits : (s : List ℕ) (n : ℕ) → n ≤ length s → ((i : ℕ) → getD s i 0 < 256) → packed (bit s) n ≡ take n s
-unfolding bit
 packed-bits s n h b =
     ext-getD 0 (packed (bit s) n) (take n s) (length-packed (bit s) n ∙ sym (length-take-le n s h))
     (λ i l.
     let lt : i < n = subst (λ (x : ℕ). i < x) (length-packed (bit s) n) l in
-    getD-packed (bit s) n i lt
-    ∙ number-digits (bit s) (8 * i) 8 (getD s i 0) (b i)
-    (λ m lm.
-    ap₂ (λ (x y : ℕ). digit (getD s x 0) y) (omega arith) (omega arith))
-    ∙ sym (getD-take n s i 0 lt))
+    getD-packed (bit s) n i lt ∙ field-byte s i (b i) ∙ sym (getD-take n s i 0 lt))
 
 -- ---- forms
 
