@@ -46,7 +46,12 @@ fn stamp_field(s: &[u8]) -> u64
     requires { ⌜ record-size ≤ length (now s) ⌝ }
     ensures { λ r. ⌜ r ≡ field (now (s .entry)) 8 40 ⌝ }
 {
-    fields::field_at(s, 8, 40)
+    // The last byte first: in this order the compiler loads four of them at once.
+    (s[5] as u64)
+        + ((s[4] as u64) << 8)
+        + ((s[3] as u64) << 16)
+        + ((s[2] as u64) << 24)
+        + ((s[1] as u64) << 32)
 }
 
 // The stamp before, or the sum of it and the field, is past the limit.
