@@ -105,15 +105,15 @@ module _ (p : Property) where
   timed-pairs ls t = given-pairs ls (t .moments) (t .given) (t .never-fall)
 
 -- from pairs to moments: the earliest ones, each counted from UB before zero
-abbrev low : Property → Action → ℕ → ℕ
+abbrev pub low : Property → Action → ℕ → ℕ
 low p (Action.input k) t = t + p .LB + p .UB
 low p (Action.output k) t = t
 
-abbrev Under : Property → ℕ → Action → ℕ → Type 0
+abbrev pub Under : Property → ℕ → Action → ℕ → Type 0
 Under p m (Action.input k) t = m ≤ t + p .UB + p .UB
 Under p m (Action.output k) t = m + p .LB ≤ t + p .UB
 
-unfoldable earliest : Property → ℕ → List Line → List ℤ
+unfoldable pub earliest : Property → ℕ → List Line → List ℤ
 earliest p m [] = []
 earliest p m (l ∷ ls) =
     (pos (max m (low p (l .action) (l .stamp))) -ℤ pos (p .UB)) ∷ earliest p (max m (low p (l .action) (l .stamp))) ls
@@ -129,7 +129,7 @@ module _ (p : Property) (b : Bounds p) where
   own-under (Action.input j) t = omega (arith, b .order)
   own-under (Action.output j) t = omega (arith, b .order)
 
-  zero-under : (x : Action) (t : ℕ) → Under p 0 x t
+  pub zero-under : (x : Action) (t : ℕ) → Under p 0 x t
   zero-under (Action.input j) t = omega arith
   zero-under (Action.output j) t = omega (arith, b .order)
 
@@ -147,7 +147,7 @@ module _ (p : Property) (b : Bounds p) where
     le-in (pos m -ℤ pos (p .UB)) (pos t -ℤ pos (p .LB)) (omega (arith, minus-sum m (p .UB), minus-sum t (p .LB))),
   )
 
-  earliest-given : (m : ℕ) (ls : List Line) → All (λ l. Under p m (l .action) (l .stamp)) ls → Pairs p ls → Given p ls (earliest p m ls)
+  pub earliest-given : (m : ℕ) (ls : List Line) → All (λ l. Under p m (l .action) (l .stamp)) ls → Pairs p ls → Given p ls (earliest p m ls)
   unfolding earliest
   earliest-given m [] u c = tt
   earliest-given m (l ∷ ls) (also h u) (first a c) =
@@ -161,7 +161,7 @@ module _ (p : Property) (b : Bounds p) where
             c,
       )
 
-  earliest-never-fall : (m : ℕ) (ls : List Line) → NeverFall (earliest p m ls)
+  pub earliest-never-fall : (m : ℕ) (ls : List Line) → NeverFall (earliest p m ls)
   unfolding earliest
   earliest-never-fall m [] = tt
   earliest-never-fall m (l ∷ []) = tt

@@ -1,0 +1,7 @@
+-- Moments, the first order, its numbers, the line.
+pub mod Earliest
+pub mod First
+pub mod Reached
+pub mod Verdicts
+pub mod Search
+pub mod Questions
