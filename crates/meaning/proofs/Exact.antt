@@ -13,7 +13,7 @@ use Rattle.meaning.specs.Words.{Action, Property, Line, Run, StampsFrom}
 use Rattle.meaning.specs.Node.{ins, outs, Explanation, Some, VerdictFor}
 use Rattle.meaning.specs.Calls.{is-open, count-open, open-at}
 use Rattle.meaning.specs.Step.{Sets, Held, Front, last-set, closed, appended, swept, front-with, fresh-front, verdict-of, front-verdict}
-use Rattle.meaning.proofs.Lists.{All, done, also, all-append, all-left, all-right, all-map, all-both, all-ins, all-outs, from-ins}
+use Rattle.meaning.proofs.Lists.{All, done, also, all-append, all-left, all-right, all-map, all-both, all-ins, all-outs, from-ins, from-longer}
 use Rattle.meaning.proofs.Pairs.{May, Pairs, none}
 use Rattle.meaning.proofs.Channels.{In, Out, ins-in, outs-out, out-out, out-in, from-right}
 use Rattle.meaning.proofs.Facts.{explains-pairs, pairs-explain}
@@ -57,12 +57,6 @@ module _ {p : Property} {Breaking : List Line → Type 0} (R : Reading p Breakin
         λ w. R .laws .member-start s .1
             (sym (w .remembers) ∙ ap (along M (M .begin)) (empty-channels (w .order) (w .ins-are) (w .outs-are)) ∙ along-none M (M .begin)),
       )
-
-  -- stamps that never fall, one line longer
-  from-longer : (t T′ : ℕ) (ls : List Line) (l : Line) → StampsFrom t ls → All (λ (z : Line). z .stamp ≤ T′) ls → t ≤ l .stamp → T′ ≤ l .stamp
-      → StampsFrom t (ls ++ l ∷ [])
-  from-longer t T′ [] l f w h k = (h, tt)
-  from-longer t T′ (x ∷ ls) l f (also q w) h k = (f .0, from-longer (x .stamp) T′ ls l (f .1) w (le-trans q k) k)
 
   -- the front after one more line fits the run with that line
   module _ (T₀ : ℕ) (run : Run) (f : Front (𝓢 .Set)) (fit : Fits T₀ run f) where

@@ -175,3 +175,9 @@ from-outs t (l ∷ ls) f = go (l .action) (from-outs (l .stamp) ls (f .1))
     go : (a : Action) → StampsFrom (l .stamp) (outs ls) → StampsFrom t (keep-output a l (outs ls))
     go (Action.input k) r = from-weaker (outs ls) (f .0) r
     go (Action.output k) r = (f .0, r)
+
+-- stamps that never fall, one line longer
+pub from-longer : (t T′ : ℕ) (ls : List Line) (l : Line) → StampsFrom t ls → All (λ (z : Line). z .stamp ≤ T′) ls → t ≤ l .stamp → T′ ≤ l .stamp
+    → StampsFrom t (ls ++ l ∷ [])
+from-longer t T′ [] l f w h k = (h, tt)
+from-longer t T′ (x ∷ ls) l f (also q w) h k = (f .0, from-longer (x .stamp) T′ ls l (f .1) w (le-trans q k) k)

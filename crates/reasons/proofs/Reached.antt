@@ -27,7 +27,7 @@ take-within zero u v h = refl
 take-within (suc j) [] v h = let z : ⊥ = omega arith in absurd z
 take-within (suc j) (x ∷ u) v h = ap (λ (r : List _). x ∷ r) (take-within j u v (omega arith))
 
-same-number : (v w : Verdict) → verdict-number v ≡ verdict-number w → v ≡ w
+pub same-number : (v w : Verdict) → verdict-number v ≡ verdict-number w → v ≡ w
 same-number Verdict.clear Verdict.clear e = refl
 same-number Verdict.suspect Verdict.suspect e = refl
 same-number Verdict.certain Verdict.certain e = refl
@@ -49,7 +49,7 @@ module _ (p : Property) (good : property-refusal p ≡ 0) where
   bounds : Bounds p
   bounds = good-bounds p good
 
-  one-verdict : (run : Run) → StampsFrom 0 run → (v w : Verdict) → IsVerdict p run v → IsVerdict p run w → v ≡ w
+  pub one-verdict : (run : Run) → StampsFrom 0 run → (v w : Verdict) → IsVerdict p run v → IsVerdict p run w → v ≡ w
   one-verdict run rise v w h k = verdict-unique p bounds run 0 rise (Breaks p) v w h k
 
   front-rises : (j : ℕ) (run : Run) → StampsFrom 0 run → StampsFrom 0 (take j run)
