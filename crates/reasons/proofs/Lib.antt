@@ -5,3 +5,5 @@ pub mod Reached
 pub mod Verdicts
 pub mod Search
 pub mod Questions
+pub mod Exists
+pub mod Numbers

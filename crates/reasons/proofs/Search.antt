@@ -1,15 +1,18 @@
 -- The first order with a wanted end, found going forward: an output first wherever that end can still be reached from there.
-use Prim.Native.Nat.{ℕ, suc, _+_, _*_, _≤_}
+use Prim.Native.Nat.{ℕ, zero, suc, _+_, _*_, _≤_, _<_}
 use mathlib.Core.Path.{_≡_, refl, sym, _∙_, ap, subst}
 use mathlib.Core.Logic.{_⊎_, inl, inr}
+use mathlib.Core.Bool.{Bool, true, false}
 use mathlib.Core.List.{List, [], _∷_, _++_, head-eq-of-cons-eq, tail-eq-of-cons-eq, nil≢cons}
 use native.Mathlib.Omega.{arith}
-use native.Mathlib.Nat.{le-trans}
+use lib.ListN.{length}
+use lib.Dec.{leb}
+use borrow.Author.Tests.{leb-true, leb-false}
 use Rattle.meaning.specs.Words.{Action, Property, Line, StampsFrom}
-use Rattle.meaning.specs.Node.{ins, outs, OutputFirst}
+use Rattle.meaning.specs.Node.{ins, outs, InputFirst, OutputFirst}
 use Rattle.meaning.proofs.Lists.{All, done, also, all-head, all-map, all-both, all-ins, all-outs, all-channels, from-all}
 use Rattle.meaning.proofs.Pairs.{Bounds, May, Pairs, none, first}
-use Rattle.meaning.proofs.Channels.{IsIn, IsOut, In, Out, in-or-out, ins-cons, outs-skip, outs-cons, ins-skip, out-out, out-in, out-in-asks}
+use Rattle.meaning.proofs.Channels.{IsIn, IsOut, In, Out, in-or-out, ins-cons, outs-skip, outs-cons, ins-skip, in-in, out-out, in-out, out-in, in-out-asks, out-in-asks}
 use Rattle.meaning.proofs.OneLine.{empty-channels}
 use Rattle.meaning.proofs.Sets.{Matcher, along, along-none}
 use Rattle.reasons.specs.Reasons.{Sooner, First}
@@ -223,3 +226,106 @@ module _ (p : Property) (b : Bounds p) (M : Matcher) (Ends : M .State → Type 0
                 (tail .fits);
             first = λ v k. other tail (head-of v k);
           }
+
+  -- ---- where the wanted end can be told of a state, so can whether it can be reached
+
+  -- an input may stand before later inputs, and before all outputs if it may before the first
+  after-ins : (x : Line) (I : List Line) → All In (x ∷ I) → StampsFrom 0 (x ∷ I) → All (May p x) I
+  after-ins x I (also i is) f = all-map (λ z h. in-in p b x z i (h .0) (h .1)) (all-both is (from-all I (f .1)))
+
+  after-outs : (x y : Line) (O : List Line) → In x → All Out (y ∷ O) → StampsFrom 0 (y ∷ O) → InputFirst p (x .stamp) (y .stamp) → All (May p x) (y ∷ O)
+  after-outs x y O i (also o os) f h =
+      also (in-out p x y i o h) (all-map (λ z k. in-out p x z i (k .0) (let k′ : y .stamp ≤ z .stamp = k .1 in omega arith)) (all-both os (from-all O (f .1))))
+
+  not-first : (s t : ℕ) → s + 2 * p .UB < t → OutputFirst p s t → ⊥
+  not-first s t l c = omega arith
+
+  abbrev Decides : List Line → List Line → M .State → Type 0
+  Decides I O q = Reach I O q ⊎ ¬ Reach I O q
+
+  -- from both channels: by the output if it may stand first, or else by the input
+  either-first : (x y : Line) (I O : List Line) (q : M .State) → All In (x ∷ I) → All Out (y ∷ O) → StampsFrom 0 (x ∷ I) → StampsFrom 0 (y ∷ O)
+      → Decides (x ∷ I) O (M .step q y) → Decides I (y ∷ O) (M .step q x) → Decides (x ∷ I) (y ∷ O) q
+  either-first x y I O q ii oo fi fo by-y by-x =
+      go (leb (y .stamp) (x .stamp + 2 * p .UB)) (leb-true (y .stamp) (x .stamp + 2 * p .UB)) (leb-false (y .stamp) (x .stamp + 2 * p .UB)) by-y
+    where
+      from-out : {w : List Line} → Headed (x ∷ I) (y ∷ O) q w → (OutputFirst p (x .stamp) (y .stamp) → Reach (x ∷ I) O (M .step q y) → ⊥)
+          → (InputFirst p (x .stamp) (y .stamp) → Reach I (y ∷ O) (M .step q x) → ⊥) → ⊥
+      from-out (nothing ei eo) s t = nil≢cons (sym ei)
+      from-out (by-out z Z v e out mi mo g) s t =
+          s (out-in-asks p y x (all-head oo) (all-head ii) (all-head (subst (λ (l : Line). All (May p l) (x ∷ I)) (sym (head-eq-of-cons-eq e)) mi))) (v, same-out y z e g)
+      from-out (by-in z Z v e i mi mo g) s t =
+          t (in-out-asks p x y (all-head ii) (all-head oo) (all-head (subst (λ (l : Line). All (May p l) (y ∷ O)) (sym (head-eq-of-cons-eq e)) mo))) (v, same-in x z e g)
+
+      input-then : (OutputFirst p (x .stamp) (y .stamp) → Reach (x ∷ I) O (M .step q y) → ⊥) → (t : Bool) → (t ≡ true → x .stamp + 2 * p .LB ≤ y .stamp)
+          → (t ≡ false → y .stamp < x .stamp + 2 * p .LB) → Decides I (y ∷ O) (M .step q x) → Decides (x ∷ I) (y ∷ O) q
+      input-then s true h k (inl r) = inl (x ∷ r .0, with-in x (all-head ii) (after-ins x I ii fi) (after-outs x y O (all-head ii) oo fo (h refl)) (r .1))
+      input-then s true h k (inr n) = inr (λ r. from-out (head-of (r .0) (r .1)) s (λ c f. n f))
+      input-then s false h k d = inr (λ r. from-out (head-of (r .0) (r .1)) s (λ c f. let l : y .stamp < x .stamp + 2 * p .LB = k refl in let z : ⊥ = omega arith in z))
+
+      on : (OutputFirst p (x .stamp) (y .stamp) → Reach (x ∷ I) O (M .step q y) → ⊥) → Decides (x ∷ I) (y ∷ O) q
+      on s = input-then s (leb (x .stamp + 2 * p .LB) (y .stamp)) (leb-true _ _) (leb-false _ _) by-x
+
+      go : (t : Bool) → (t ≡ true → y .stamp ≤ x .stamp + 2 * p .UB) → (t ≡ false → x .stamp + 2 * p .UB < y .stamp) → Decides (x ∷ I) O (M .step q y) → Decides (x ∷ I) (y ∷ O) q
+      go true h k (inl r) = inl (y ∷ r .0, with-out y (all-head oo) (before-ins y x I (all-head oo) ii fi (h refl)) (before-outs y O oo fo) (r .1))
+      go true h k (inr n) = on (λ c f. n f)
+      go false h k d = on (λ c f. not-first (x .stamp) (y .stamp) (k refl) c)
+
+  module _ (told : (s : M .State) → Ends s ⊎ ¬ Ends s) where
+    decided : (m : ℕ) (I O : List Line) (q : M .State) → length I + length O ≡ m → All In I → All Out O → StampsFrom 0 I → StampsFrom 0 O → Decides I O q
+    unfolding along
+    decided m [] [] q e ii oo fi fo = go (told q)
+      where
+        go : Ends q ⊎ ¬ Ends q → Decides [] [] q
+        go (inl h) = inl ([], record { ins-are = refl; outs-are = refl; pairs = none; ends = h })
+        go (inr n) = inr (λ r. n (subst (λ (w : List Line). Ends (along M q w)) (empty-channels (r .0) (r .1 .ins-are) (r .1 .outs-are)) (r .1 .ends)))
+    decided zero (x ∷ I) O q e ii oo fi fo = let z : ⊥ = omega arith in absurd z
+    decided zero [] (y ∷ O) q e ii oo fi fo = let z : ⊥ = omega arith in absurd z
+    decided (suc m) [] (y ∷ O) q e ii oo fi fo = go (decided m [] O (M .step q y) (omega arith) ii (all-rest oo) fi (rest-rises y O fo))
+      where
+        only : {w : List Line} → Headed [] (y ∷ O) q w → ¬ Reach [] O (M .step q y) → ⊥
+        only (nothing ei eo) n = nil≢cons (sym eo)
+        only (by-in x I′ u ei i mi mo g) n = nil≢cons ei
+        only (by-out z Z v eo out mi mo g) n = n (v, same-out y z eo g)
+
+        go : Decides [] O (M .step q y) → Decides [] (y ∷ O) q
+        go (inl r) = inl (y ∷ r .0, with-out y (all-head oo) done (before-outs y O oo fo) (r .1))
+        go (inr n) = inr (λ r. only (head-of (r .0) (r .1)) n)
+    decided (suc m) (x ∷ I) [] q e ii oo fi fo = go (decided m I [] (M .step q x) (omega arith) (all-rest ii) oo (rest-rises x I fi) fo)
+      where
+        only : {w : List Line} → Headed (x ∷ I) [] q w → ¬ Reach I [] (M .step q x) → ⊥
+        only (nothing ei eo) n = nil≢cons (sym ei)
+        only (by-out y O′ u eo out mi mo g) n = nil≢cons eo
+        only (by-in z Z v ei i mi mo g) n = n (v, same-in x z ei g)
+
+        go : Decides I [] (M .step q x) → Decides (x ∷ I) [] q
+        go (inl r) = inl (x ∷ r .0, with-in x (all-head ii) (after-ins x I ii fi) done (r .1))
+        go (inr n) = inr (λ r. only (head-of (r .0) (r .1)) n)
+    decided (suc m) (x ∷ I) (y ∷ O) q e ii oo fi fo =
+        either-first x y I O q ii oo fi fo
+        (decided m (x ∷ I) O (M .step q y) (omega arith) ii (all-rest oo) fi (rest-rises y O fo))
+        (decided m I (y ∷ O) (M .step q x) (omega arith) (all-rest ii) oo (rest-rises x I fi) fo)
+
+    -- the search goes through
+    searched : (m : ℕ) (I O : List Line) (q : M .State) → length I + length O ≡ m → All In I → All Out O → StampsFrom 0 I → StampsFrom 0 O
+        → (o : List Line) × Found I O q o
+    searched m [] [] q e ii oo fi fo = ([], over)
+    searched zero (x ∷ I) O q e ii oo fi fo = let z : ⊥ = omega arith in absurd z
+    searched zero [] (y ∷ O) q e ii oo fi fo = let z : ⊥ = omega arith in absurd z
+    searched (suc m) [] (y ∷ O) q e ii oo fi fo = let r = searched m [] O (M .step q y) (omega arith) ii (all-rest oo) fi (rest-rises y O fo) in (y ∷ r .0, outputs (r .1))
+    searched (suc m) (x ∷ I) [] q e ii oo fi fo = let r = searched m I [] (M .step q x) (omega arith) (all-rest ii) oo (rest-rises x I fi) fo in (x ∷ r .0, inputs (r .1))
+    searched (suc m) (x ∷ I) (y ∷ O) q e ii oo fi fo =
+        go (leb (y .stamp) (x .stamp + 2 * p .UB)) (leb-true _ _) (leb-false _ _) (decided m (x ∷ I) O (M .step q y) (omega arith) ii (all-rest oo) fi (rest-rises y O fo))
+        (searched m (x ∷ I) O (M .step q y) (omega arith) ii (all-rest oo) fi (rest-rises y O fo))
+        (searched m I (y ∷ O) (M .step q x) (omega arith) (all-rest ii) oo (rest-rises x I fi) fo)
+      where
+        go : (t : Bool) → (t ≡ true → y .stamp ≤ x .stamp + 2 * p .UB) → (t ≡ false → x .stamp + 2 * p .UB < y .stamp) → Decides (x ∷ I) O (M .step q y)
+            → ((o : List Line) × Found (x ∷ I) O (M .step q y) o) → ((o : List Line) × Found I (y ∷ O) (M .step q x) o) → (o : List Line) × Found (x ∷ I) (y ∷ O) q o
+        go true h k (inl r) u v = (y ∷ u .0, output (h refl) r (u .1))
+        go true h k (inr n) u v = (x ∷ v .0, input (λ c f. n f) (v .1))
+        go false h k d u v = (x ∷ v .0, input (λ c f. not-first (x .stamp) (y .stamp) (k refl) c) (v .1))
+
+    -- Where there is a fitting order, there is a first.
+    pub first-fitting : (I O : List Line) (q : M .State) → All In I → All Out O → StampsFrom 0 I → StampsFrom 0 O → Reach I O q → (o : List Line) × First (Fitting I O q) o
+    first-fitting I O q ii oo fi fo r =
+        let s = searched (length I + length O) I O q refl ii oo fi fo in (s .0, found-first ii oo fi fo (s .1) r)

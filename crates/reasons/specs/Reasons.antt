@@ -8,7 +8,7 @@ use lib.ListN.{getD, take, drop}
 use lib.IntN.{ℤ}
 use lib.Signed.{_≤ℤ_}
 use Rattle.meaning.specs.Words.{Action, Property, Line, Run}
-use Rattle.meaning.specs.Node.{Given, NeverFall, Explanation, Verdict, IsVerdict}
+use Rattle.meaning.specs.Node.{Given, NeverFall, Explanation, Numbered, Verdict, IsVerdict}
 use Rattle.meaning.specs.Numbers.{first-of}
 use Rattle.meaning.specs.Calls.{Call, Watch, refusal, taken}
 use Rattle.meaning.specs.Matcher.{is-input}
@@ -77,6 +77,13 @@ numbered ins outs (l ∷ rest) =
 
 abbrev pub line-numbers : Run → List Line → List ℕ
 line-numbers run order = numbered (numbers-of gets-in 1 run) (numbers-of goes-out 1 run) order
+
+-- Each number is that of the line beside it.
+abbrev pub Names : Run → List ℕ → List Line → Type 0
+Names run [] [] = Unit {0}
+Names run [] (l ∷ ls) = ⊥
+Names run (k ∷ ks) [] = ⊥
+Names run (k ∷ ks) (l ∷ ls) = Numbered run k l × Names run ks ls
 
 -- The number with which a session refuses the first of these lines that it does not take; 0 where it takes all.
 unfoldable pub lines-refusal : Property → Watch → List Line → ℕ

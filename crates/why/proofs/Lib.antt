@@ -16,3 +16,4 @@ pub mod Route
 pub mod Showing
 pub mod Explaining
 pub mod Answers
+pub mod Determined

@@ -24,7 +24,7 @@ use matcher::Cut;
 use property::Property;
 
 // "For a run of up to 256 lines".
-const MOST_LINES: usize = 256;
+pub const MOST_LINES: usize = 256;
 
 // Refusal number, verdict, and the line after which it was first told.
 pub struct Reason {
