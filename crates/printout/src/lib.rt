@@ -1,4 +1,6 @@
 // The text of the listing of document 01, case 15: its header, a line for each record taken, and its last line.
+pub mod reason;
+
 ghost use mathlib.Core.Path.{_≡_};
 ghost use mathlib.Core.List.{_∷_, [], _++_};
 ghost use Prim.Native.Nat.{_+_, _≤_, _<_};
