@@ -1,5 +1,5 @@
-"""Packed logs, whole and damaged, for tests/listing.py, tests/names.py and tests/tap.py, and how the programs are run that list
-them."""
+"""Packed logs, whole and damaged, for tests/listing.py, tests/names.py, tests/tap.py and tests/show_why.py, and how the programs
+are run that list them."""
 import os
 import shlex
 import subprocess
@@ -56,10 +56,13 @@ class Runs:
             sys.exit(f'{self.name}: {what}: {data.hex()}\nexpected {want}\ngot      {got.decode("ascii", "replace").splitlines()}')
         if read != self.size_read(data, want):
             sys.exit(f'{self.name}: {what}: {data.hex()}\n{read} bytes were read, expected {self.size_read(data, want)}')
-        end = end_of(want)
+        end = self.end_of(want)
         self.ends[end] = self.ends.get(end, 0) + 1
         self.verdicts += both
         return want
+
+    def end_of(self, want):
+        return end_of(want)
 
     def told(self):
         return ', '.join(f'{k} {v}' for k, v in sorted(self.ends.items()))

@@ -1,9 +1,10 @@
 """The rules (docs/RULES.md) read once more, for the Python tests: packed forms, explanations, verdicts, room, gaps, the listing
-of ordinary records and of the tap card's, lists of names and the listing with names.
+of ordinary records and of the tap card's, lists of names and the listing with names, and why a run has its verdict.
 
 It shares nothing with the crates, the tools or the C tests. A verdict is found in two ways: from all explanations of a run,
 listed one by one, and by one step after the other over cuts, which long runs need."""
 import collections
+import functools
 import math
 
 LIMIT = 2 ** 40 - 1
@@ -368,3 +369,126 @@ def named_listing(data, most=MOST_LISTED):
         name = name_of(found, "IOG".index(kind), int(action))
         named.append(" ".join([taken, kind, action, name] + others))
     return named + lines[-1:], both
+
+
+# ---- why
+
+MOST_LINES = 256
+
+
+def earliest(p, before, line):
+    """The earliest moment of a line behind one at `before`, None if it comes too late."""
+    out, _, stamp = line
+    low, high = (stamp - p.ub, stamp - p.lb) if out else (stamp + p.lb, stamp + p.ub)
+    moment = low if before is None else max(before, low)
+    return moment if moment <= high else None
+
+
+def all_orders(p, run, ins, outs, so_far):
+    """All explanations as numbers of lines with their earliest moments. Of two the one comes first that has an output where they
+    first differ."""
+    if not ins and not outs:
+        yield so_far
+    for lines, left in ((outs, (ins, outs[1:])), (ins, (ins[1:], outs))):
+        if lines:
+            moment = earliest(p, so_far[-1][1] if so_far else None, run[lines[0] - 1])
+            if moment is not None:
+                yield from all_orders(p, run, *left, so_far + [(lines[0], moment)])
+
+
+def numbers(run, out):
+    return [number for number, line in enumerate(run, 1) if bool(line[0]) == out]
+
+
+def orders_listed(p, run, most):
+    """The first explanation that breaks and the first that does not, each None if there is none; None where there are too many."""
+    ins, outs = numbers(run, False), numbers(run, True)
+    if math.comb(len(run), len(ins)) > most or len(run) > 400:
+        return None
+    first = {}
+    for order in all_orders(p, run, ins, outs, []):
+        first.setdefault(breaks(p, [run[number - 1] for number, _ in order]), order)
+    return first.get(True), first.get(False)
+
+
+def orders_stepped(p, run):
+    """The same by what can still be reached from the place between i inputs and q outputs, as two lines at a time decide it."""
+    ins, outs = numbers(run, False), numbers(run, True)
+
+    def stamp(number):
+        return run[number - 1][2]
+
+    def possible(i, q):
+        return ((i == 0 or q == len(outs) or stamp(outs[q]) - stamp(ins[i - 1]) >= 2 * p.lb)
+                and (q == 0 or i == len(ins) or stamp(outs[q - 1]) - stamp(ins[i]) <= 2 * p.ub))
+
+    def next_places(i, q, state):
+        """The output first."""
+        for number, place in ((outs[q] if q < len(outs) else None, (i, q + 1)), (ins[i] if i < len(ins) else None, (i + 1, q))):
+            if number is not None and possible(*place):
+                lengths, broken = moved(p, (set(), True) if state is None else ({state}, False), *run[number - 1][:2])
+                yield number, (*place, None if broken else lengths.pop())
+
+    @functools.lru_cache(None)
+    def ends(i, q, state):
+        """Whether the order is broken in the end: the answers that can be reached. A state of None is broken."""
+        if i == len(ins) and q == len(outs):
+            return frozenset([state is None])
+        return frozenset().union(*(ends(*place) for _, place in next_places(i, q, state)))
+
+    def first(broken):
+        place, order = (0, 0, (0, False)), []
+        if broken not in ends(*place):
+            return None
+        while len(order) < len(run):
+            number, place = next((number, there) for number, there in next_places(*place) if broken in ends(*there))
+            order.append((number, earliest(p, order[-1][1] if order else None, run[number - 1])))
+        return order
+
+    return first(True), first(False)
+
+
+def reasons(p, run, most=MOST_LISTED):
+    """Verdict, the line after which it was first reached, its orders, and whether these were found in both ways."""
+    w, verdict, line = FRESH, CLEAR, 0
+    for number, (out, act, stamp) in enumerate(run, 1):
+        w = after_line(p, w, out, act, stamp)
+        if standing(w) != verdict:
+            verdict, line = standing(w), number
+    found, listed = orders_stepped(p, run), orders_listed(p, run, most)
+    assert listed in (None, found), "the two ways to an order differ"
+    breaking, other = found
+    assert verdict == (CLEAR if breaking is None else CERTAIN if other is None else SUSPECT), "the orders are not those of the verdict"
+    return verdict, line, [order for order in found if order is not None], listed is not None
+
+
+def open_run(data):
+    """Refusal, property, the run that is open at the end record (None while blind) and the number of bytes read."""
+    refusal, p, at = read_property(data)
+    if refusal:
+        return refusal, None, None, len(data) if refusal == 7 else (122 + 7 * (data[0] >> 2) + 7) // 8
+    w, run = FRESH, []
+    while True:
+        refusal, kind, action, stamp = read_record(data[at:at + 6], w.latest)
+        at = min(at + 6, len(data))
+        if refusal:
+            return refusal, None, None, at
+        if kind == END:
+            return 0, p, run, at
+        w, run = after_record(p, w, kind, action, stamp), run_after(p, w, run, kind, action, stamp)
+        if len(w.held) > MOST_OPEN:
+            return 6, None, None, at
+
+
+def shown_why(data, most=MOST_LISTED):
+    """The lines that the program prints that shows why, whether its orders were found in both ways, and how many bytes it reads."""
+    refusal, p, run, at = open_run(data)
+    if not refusal and run is not None and len(run) > MOST_LINES:
+        refusal = 13
+    if refusal:
+        return ["stop %d" % refusal], False, at
+    if run is None:
+        return ["blind"], False, at
+    verdict, line, orders_found, both = reasons(p, run, most)
+    lines = ["%s %d" % (WORDS[verdict], line)]
+    return lines + ["%d %d" % placed for order in orders_found for placed in order], both, at

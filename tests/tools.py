@@ -25,8 +25,8 @@ import rules  # noqa: E402
 from rules import END, END_RECORD, GAP, INPUT, LIMIT, OUTPUT, TAP_END, TURN, pack_record, pack_tap  # noqa: E402
 
 TOP = os.path.dirname(os.path.dirname(os.path.abspath(__file__)))
-PROGRAMS = 'listing', 'named_listing', 'tap_listing'
-PROGRAM, NAMED_PROGRAM, TAP_PROGRAM = (os.path.join(TOP, 'target', 'bin', name) for name in PROGRAMS)
+PROGRAMS = 'listing', 'named_listing', 'tap_listing', 'show_why'
+PROGRAM, NAMED_PROGRAM, TAP_PROGRAM, WHY_PROGRAM = (os.path.join(TOP, 'target', 'bin', name) for name in PROGRAMS)
 LISTING, NAMES, PACK, UNPACK = (os.path.join(TOP, 'tools', name) for name in ('listing', 'names', 'pack', 'unpack'))
 SAMPLES = sorted(os.path.join(TOP, 'samples', name) for name in os.listdir(os.path.join(TOP, 'samples')) if name.endswith('.bin'))
 SITE, RELEASE = (os.path.join(TOP, 'samples', f'switch-{name}.names') for name in ('site', 'release'))
@@ -327,7 +327,8 @@ class Folder:
     def __init__(self, folder):
         self.top = os.path.join(folder, 'a folder')
         self.listing = os.path.join(self.top, 'tools', 'listing')
-        self.program, self.named_program, self.tap_program = (os.path.join(self.top, 'target', 'bin', name) for name in PROGRAMS)
+        self.program, self.named_program, self.tap_program, self.why_program = (
+            os.path.join(self.top, 'target', 'bin', name) for name in PROGRAMS)
         self.logs = os.path.join(self.top, 'logs')
         self.asked = os.path.join(self.top, 'asked')
         self.said = os.path.join(self.top, 'said')
@@ -342,6 +343,7 @@ class Folder:
         shutil.copy(PROGRAM, self.program)
         shutil.copy(NAMED_PROGRAM, self.named_program)
         shutil.copy(TAP_PROGRAM, self.tap_program)
+        shutil.copy(WHY_PROGRAM, self.why_program)
 
     def play(self, lines=(), status=0, more=':'):
         """What rt check says, its status, and what else it does. It reads all of its standard input, which must not be the
@@ -666,6 +668,58 @@ def listing_tap(folder):
     builds_one(made, ['--tap', CARD], CARD_LISTING, TAP_PROGRAM, made.tap_program)
 
 
+SWITCH_WHY = b'''\
+suspect 4
+1 3002000
+3 3020000
+4 3021000
+2 3021000
+3 3020000
+4 3021000
+1 3021000
+2 3021000
+'''
+
+
+def listing_why(folder):
+    """The samples, and what ends in a refusal, blind, or in nothing; lost output; arguments first, then rt check."""
+    made = Folder(folder)
+    same('a sample', made.run('--why', SWITCH), (0, SWITCH_WHY, ''))
+    same('its bytes from standard input', made.run('--why', data=contents(SWITCH)), (0, SWITCH_WHY, ''))
+    same('a part of it', made.run('--why', data=contents(SWITCH)[:-1]), (1, b'stop 7\n', ''))
+    for path in SAMPLES:
+        want = '\n'.join(rules.shown_why(contents(path))[0]) + '\n'
+        same(path, made.run('--why', path), (int(want.startswith('stop')), want.encode(), ''))
+    same('no run', made.run('--why', data=rules.pack_property(B) + pack_record(GAP, 0, 7) + END_RECORD), (0, b'blind\n', ''))
+    same('no line', made.run('--why', data=rules.pack_property(B) + END_RECORD), (0, b'clear 0\n', ''))
+    same('a log that cannot be read', made.run('--why', '/proc/self/mem'), (1, b'stop 7\n', ''))
+    lost_output([made.listing, '--why', SWITCH], made.environment(), folder, quiet=True)
+    # a program that ends before it has said all, or says something else; without rt it is run by itself
+    for text, status in (('suspect 4\n1 30', 0), ('suspect 4\n1 3002000\n', 9), ('', 0), ('suspect\n', 0), ('end 4\n', 0)):
+        with open(made.why_program, 'w') as program:
+            program.write(f"#!/bin/sh\nprintf '{text}'\nexit {status}\n")
+        ended, out, said = made.run('--why', SWITCH, rt=False)
+        same(f'{text!r} and status {status}', (ended, out), (2, text.encode()))
+        message(text, said, f'the program ended before the listing did (status {status})')
+    made.build()
+    made.play(UNCHANGED, more=f'echo "$*" >>{shlex.quote(made.asked)}')
+    for words in (['--why', '--nonsense'], ['--why', CARD, CARD], ['--why', '-'], [CARD, '--why'], ['--why', '--why'], ['--why', '--tap'],
+                  ['--tap', '--why'], ['--why', '--help'], ['--why', '--names', SITE, RELEASE], ['--names', SITE, RELEASE, '--why'],
+                  ['--command', '--why'], ['--why', '--command', SWITCH]):
+        status, out, said = made.run(*words)
+        same(f'{words}: status, output, rt check', (status, out, made.times_asked()), (2, b'', 0))
+        message(str(words), said, 'usage: tools/listing [FILE]', 'tools/listing --why [FILE]')
+    for log in ('no such file', '/'):
+        status, out, said = made.run('--why', log)
+        same(f'{log}: status, output, rt check', (status, out, made.times_asked()), (2, b'', 0))
+        message(log, said, log)
+    status, out, said = made.run('--why', '--command')
+    words = shlex.split(out.decode())
+    same('the command', (status, words[-1], said, made.times_asked('show_why')), (0, made.why_program, '', 1))
+    same('the command, run', run(words, contents(SWITCH))[:2], (0, SWITCH_WHY))
+    builds_one(made, ['--why', SWITCH], SWITCH_WHY, WHY_PROGRAM, made.why_program)
+
+
 def names_text(folder):
     """Good text in any order, and each way to write it badly. The samples' lists are what is made of their texts."""
     for path in (SITE, RELEASE):
@@ -987,8 +1041,8 @@ def rules_cited(folder):
 
 
 PARTS = [listing_status, listing_long, listing_lost_output, listing_slow_reader, listing_live, listing_leaves_input, listing_builds,
-         listing_names, listing_names_lists, listing_names_builds, listing_names_live, listing_tap, names_text, names_output,
-         pack_output, pack_text, pack_follow, pack_card, unpack_back, readme, rules_cited]
+         listing_names, listing_names_lists, listing_names_builds, listing_names_live, listing_tap, listing_why, names_text,
+         names_output, pack_output, pack_text, pack_follow, pack_card, unpack_back, readme, rules_cited]
 
 
 def main(names):
@@ -996,7 +1050,7 @@ def main(names):
     if unknown:
         sys.exit(f'tools: there is no part {", ".join(sorted(unknown))}')
     # builds the programs if they are not there
-    for words in ([], ['--tap']):
+    for words in ([], ['--tap'], ['--why']):
         subprocess.run([LISTING, *words, '--command'], stdout=subprocess.DEVNULL, check=True)
     if subprocess.run([LISTING, '--names', os.devnull, os.devnull, os.devnull], stdout=subprocess.DEVNULL).returncode != 1:
         sys.exit('tools: there is no program that lists with names')

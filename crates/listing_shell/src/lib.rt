@@ -46,7 +46,7 @@ pub fn shown(text: Text, more: bool) -> bool
 
 // Reads a packed property to the front of `form`. Its first byte says how many bytes it has, and no more are read. Input that
 // ends early and a read that fails leave fewer, which the answer then refuses.
-fn read_form(fd: i32, form: &mut [u8]) -> usize
+pub fn read_form(fd: i32, form: &mut [u8]) -> usize
     requires { ⌜ 71 ≤ length (now form) ⌝ }
     ensures { λ r. ⌜ Counts r (now (form .exit)) ⌝ }
 {

@@ -1,0 +1,51 @@
+-- `show_why::next` meets its contract: no more bytes came than a record has.
+use Prim.Native.Nat.{ℕ, _≤_}
+use mathlib.Core.List.{List}
+use native.Mathlib.Omega.{arith}
+use lib.ListN.{length, take, length-take}
+use Rattle.record_form.specs.Record.{record-size}
+use Rattle.show_why.proofs.Standing.{read-next}
+use borrow.Author.Needs.{needs}
+use Rattle.show_why.proofs.next.Statement.{statement}
+use Rattle.show_why.proofs.next.Tie as tie
+
+few : (n : ℕ) (bytes : List ℕ) → n ≤ record-size → length (take n bytes) ≤ record-size
+few n bytes h = omega (arith, length-take n bytes, h)
+
+slice-aggregate-read-full : tie.Need-slice-aggregate-read-full
+slice-aggregate-read-full c = search needs
+
+read-full-requires : tie.Need-read-full-requires
+read-full-requires c κs = search needs
+
+array-share-prefix-bytes : tie.Need-array-share-prefix-bytes
+array-share-prefix-bytes c = search needs
+
+slice-aggregate-read-record : tie.Need-slice-aggregate-read-record
+slice-aggregate-read-record c = search needs
+
+read-record-requires : tie.Need-read-record-requires
+read-record-requires c κs = search needs
+
+take-requires : tie.Need-take-requires
+take-requires c κs = search needs
+
+returns : tie.Need-returns
+returns c =
+    let read = c .before .before .before .before .before .before .before .before in
+    let got = read .before .before .before in
+    read-next _ (few (got .read-full .result) _ (omega (arith, got .read-full .ensures .0, got .read-full .kept .1 .0, slice-aggregate-read-full (got .before))))
+    (read .read-record .ensures)
+    (c .take .ensures)
+
+pub next-spec : {M : Type 1} → statement M
+next-spec =
+    tie.close
+    (tie.spec
+    slice-aggregate-read-full
+    read-full-requires
+    array-share-prefix-bytes
+    slice-aggregate-read-record
+    read-record-requires
+    take-requires
+    returns)

@@ -1,0 +1,84 @@
+-- Document 02, CR 6: "for the run open at the end record". The run that is kept is the one that the calls so far have left open.
+use Prim.Native.Nat.{ℕ, _+_, _≤_}
+use mathlib.Core.Path.{_≡_}
+use mathlib.Core.Bool.{Bool, false}
+use mathlib.Core.List.{List, [], _∷_, _++_}
+use lib.ListN.{length, getD}
+use Rattle.laws.specs.Places.{first}
+use Rattle.meaning.specs.Words.{Line, Run}
+use Rattle.meaning.specs.Calls.{Call, Watch, fresh, watched}
+use Rattle.property.specs.Meant.{meant}
+use Rattle.property.specs.declared.Property.{Property}
+use Rattle.record_form.specs.Record.{record-size, record-answer}
+use Rattle.record_form.specs.ReadAs.{ReadAs, read-as}
+use Rattle.cuts.specs.Steps.{line-of}
+use Rattle.session_record.specs.declared.Session.{Session}
+use Rattle.session_record.specs.Record.{latest-of}
+use Rattle.session_record.specs.Step.{fresh-of, stepped-through}
+use Rattle.session_record.specs.Lent.{Ready}
+use Rattle.why.specs.Why.{most-lines}
+use Rattle.walk.specs.declared.Did.{Did}
+use Rattle.walk.specs.declared.Did.the-variants.{Took, Ended, Not}
+use Rattle.walk.specs.Walk.{One, one-read}
+
+-- What is kept: three arrays of places, and the number of lines.
+pub record Lines : Type 0 where
+  pub outputs : List Bool
+  pub actions : List ℕ
+  pub stamps : List ℕ
+  pub count : ℕ
+
+abbrev pub in-lines : List Bool → List ℕ → List ℕ → ℕ → Lines
+in-lines outputs actions stamps count = record { outputs = outputs; actions = actions; stamps = stamps; count = count }
+
+abbrev pub line-at : Lines → ℕ → Line
+line-at k i = line-of (getD (k .outputs) i false) (getD (k .actions) i 0) (getD (k .stamps) i 0)
+
+-- A run is kept: all its lines are counted, and where there are no more than 256 they stand in their places, in order.
+pub record Keeps (run : Run) (k : Lines) : Type 0 where
+  pub outputs-long : length (k .outputs) ≡ most-lines
+  pub actions-long : length (k .actions) ≡ most-lines
+  pub stamps-long : length (k .stamps) ≡ most-lines
+  pub counted : length run ≡ k .count
+  pub kept : k .count ≤ most-lines → first (line-at k) (k .count) ≡ run
+
+-- What calls on a fresh session have come to by the rules.
+abbrev pub seen : Property → List Call → Watch
+seen p calls = watched (meant p) fresh calls
+
+-- The session is what these calls have made of a fresh one, and the run that they have left open is kept.
+pub record Stands (p : Property) (calls : List Call) (s : Session) (k : Lines) : Type 0 where
+  pub session : s ≡ stepped-through (fresh-of p .session) calls
+  pub keeps : Keeps (seen p calls .run) k
+
+-- The calls of a record: it is one, or none.
+abbrev pub calls-as : ReadAs → List Call
+calls-as (ReadAs.call c) = c ∷ []
+calls-as ReadAs.end = []
+calls-as (ReadAs.refused n) = []
+
+-- What a record did, by what it does to the session.
+abbrev pub did-as : One → Did
+did-as One.ended = Ended
+did-as (One.refused n) = Not n
+did-as (One.took c after) = Took
+
+-- A record that stands for x did this and leads here: what stood behind the calls before it stands behind its own too, and the next
+-- record can start.
+pub record Goes (s : Session) (k : Lines) (x : ReadAs) (did : Did) (after : Session) (k′ : Lines) : Type 0 where
+  pub did-is : did ≡ did-as (one-read s x)
+  pub stands : (calls : List Call) → Stands (s .property) calls s k → Stands (s .property) (calls ++ calls-as x) after k′
+  pub ready : Ready after
+  pub few : k′ .count ≤ k .count + 1
+
+-- The next record is read from the bytes that came, no more than a record has; the stamp before it is the session's latest.
+pub record Next (s : Session) (k : Lines) (did : Did) (after : Session) (k′ : Lines) : Type 0 where
+  pub bytes : List ℕ
+  pub few : length bytes ≤ record-size
+  pub goes : Goes s k (read-as (record-answer bytes (latest-of s))) did after k′
+
+-- The lines are those of the run that some calls on a fresh session have left open.
+pub record Open (p : Property) (k : Lines) : Type 0 where
+  pub calls : List Call
+  pub is-open : seen p calls .is-blind ≡ false
+  pub keeps : Keeps (seen p calls .run) k
