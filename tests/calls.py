@@ -6,9 +6,9 @@
                                         target/bin/calls, run as tools/listing runs its own, unless a program is named
 
 Each call of the script carries the refusal that the table of refusals gives it, written by hand, and verdicts where they
-matter. Packed forms, held stamps, counts, latest stamps, blindness and cuts are those of tests/rules.py, by one step over cuts
-and in short runs also by listing every order of the run. A refused call must leave its other numbers 0, and its session or
-buffer as it was."""
+matter; so are orders and moments. Packed forms, held stamps, counts, latest stamps, blindness and cuts are those of
+tests/rules.py, by one step over cuts and in short runs also by listing every order of the run. A refused call must leave its
+other numbers 0, and its session, buffer or lists as they were."""
 import os
 import shlex
 import subprocess
@@ -364,6 +364,25 @@ def N(act, site, release, want=0, name=b""):
     count("N", want)
     add("N", bytes([int(act[0] == "!"), int(act[1:])]) + string(site) + string(release),
         lambda c: same("the answer", c.answer("N"), [str(want), hexed(name)]))
+
+
+LISTS = "numbers", "moments", "numbers2", "moments2"
+
+
+def Y(p, run, want=0, verdict=0, line=0, first=(), second=(), sizes=None):
+    """A run of ('?0', 100) and the like, in lists with a place for each line and one more, or of these sizes. An order is a list
+    of line numbers with their moments."""
+    sizes = sizes or [len(run) + 1] * 4
+    filled = [[place[part] for place in order] for order in (first, second) for part in (0, 1)]
+
+    def check(c):
+        same("the answer", c.answer("Y"), [str(v) for v in (want, verdict, line)])
+        for name, size, places in zip(LISTS, sizes, filled):
+            size = min(size, 512)
+            same("the list " + name, c.numbers(name), places + [0] * (size - len(places)))
+    count("Y", want)
+    lines_ = b"".join(bytes([int(act[0] == "!"), int(act[1:])]) + word(stamp) for act, stamp in run)
+    add("Y", property_bytes(p) + word(len(run)) + lines_ + b"".join(map(word, sizes)), check)
 
 
 def marked(n):
@@ -759,9 +778,7 @@ def walks():
     W(1, rec(1, 0, 0) + b"\0", 1, BUDGET)
     title("at most 4,096 records")
     F(B)
-    W(HUGE, rec(2, 0, 0) * 4098, 4096, BUDGET)
-    F(B)
-    W(4096, rec(2, 0, 1) * 4096, 4096, BUDGET)
+    W(4097, rec(2, 0, 1) * 4098, 4096, BUDGET)
     title("7 in a walk: bytes that run out")
     F(B)
     W(4, t, 3, REFUSED, 7)
@@ -1044,9 +1061,99 @@ def names():
     N("!63", b"", long, 0, b"n" * 40)
 
 
+def pairs(n):
+    """?0 and !1, each pair with one order."""
+    return [line for k in range(n) for line in (("?0", 100 * k), ("!1", 100 * k + 61))]
+
+
+def in_order(n):
+    """That order, with its moments."""
+    return [place for k in range(n) for place in ((2 * k + 1, 100 * k + 10), (2 * k + 2, 100 * k + 31))]
+
+
+def orders():
+    title("orders: document 01, cases 1 to 11 and 13, of which document 02 makes 8 and 9 certain")
+    Y(B, [])
+    Y(B, [("?0", 100), ("!2", 119)], 0, 0, 0, [(2, 89), (1, 110)])
+    Y(B, [("?0", 100), ("!2", 120)], 0, 1, 2, [(1, 110), (2, 110)], [(2, 90), (1, 110)])
+    Y(B, [("?0", 100), ("!2", 160)], 0, 1, 2, [(1, 110), (2, 130)], [(2, 130), (1, 130)])
+    Y(B, [("?0", 100), ("!2", 161)], 0, 2, 2, [(1, 110), (2, 131)])
+    Y(B, [("?0", 100), ("!2", 100)], 0, 0, 0, [(2, 70), (1, 110)])
+    Y(B, [("!2", 100), ("?0", 100)], 0, 0, 0, [(1, 70), (2, 110)])
+    Y(B, [("?0", 100), ("!1", 161)], 0, 0, 0, [(1, 110), (2, 131)])
+    Y(B, [("?0", 100), ("?1", 101), ("!2", 161)], 0, 2, 3, [(1, 110), (3, 131), (2, 131)])
+    Y(B, [("?0", 100), ("?1", 100), ("!2", 161)], 0, 2, 3, [(1, 110), (2, 110), (3, 131)])
+    Y(B, [("?0", 100), ("!1", 130), ("!2", 161)], 0, 1, 3, [(2, 100), (1, 110), (3, 131)], [(1, 110), (2, 110), (3, 131)])
+    Y(B, [("?0", 100), ("!2", 120), ("!2", 161)], 0, 2, 3, [(2, 90), (1, 110), (3, 131)])
+    Y(prop(["?0", "?0"], ()), [("?0", 100), ("?0", 101), ("?0", 102), ("!5", 170)], 0, 2, 4, [(1, 110), (2, 111), (3, 112), (4, 140)])
+    title("orders: the line after which the verdict was first told")
+    Y(B, [("?0", 100), ("!2", 120), ("!1", 200)], 0, 1, 2, [(1, 110), (2, 110), (3, 170)], [(2, 90), (1, 110), (3, 170)])
+    Y(B, [("?0", 100), ("!2", 161), ("?1", 161)], 0, 2, 2, [(1, 110), (2, 131), (3, 171)])
+    Y(B, [("!1", 50), ("?0", 100), ("!2", 161), ("?0", 161)], 0, 2, 3, [(1, 20), (2, 110), (3, 131), (4, 171)])
+    title("orders: the output first, also where an input first would do")
+    Y(B, [("?1", 100), ("!1", 120)], 0, 0, 0, [(2, 90), (1, 110)])
+    Y(B, [("?1", 100), ("?0", 100), ("!2", 160)], 0, 1, 3, [(1, 110), (2, 110), (3, 130)], [(3, 130), (1, 130), (2, 130)])
+    Y(B, [("?0", 100), ("?1", 100), ("!2", 160)], 0, 1, 3, [(1, 110), (3, 130), (2, 130)], [(3, 130), (1, 130), (2, 130)])
+    Y(prop(["!3"]), [("?1", 100), ("!3", 130), ("!2", 130)], 0, 2, 3, [(2, 100), (3, 100), (1, 110)])
+    title("orders: moments below 0, and the highest")
+    Y(B, [("!1", 0)], 0, 0, 0, [(1, -30)])
+    Y(B, [("!1", 29), ("!1", 30), ("!1", 31)], 0, 0, 0, [(1, -1), (2, 0), (3, 1)])
+    Y(B, [("?0", 0), ("!2", 20)], 0, 1, 2, [(1, 10), (2, 10)], [(2, -10), (1, 10)])
+    wide = prop(["?0"], (), 60_000_000, 60_000_000)
+    Y(wide, [("!1", 0), ("?0", 0), ("!1", 0)], 0, 0, 0, [(1, -60_000_000), (3, -60_000_000), (2, 60_000_000)])
+    Y(wide, [("?0", LIMIT), ("!1", LIMIT)], 0, 0, 0, [(2, 1_099_451_627_775), (1, 1_099_571_627_775)])
+    title("orders: lists longer than the run, of different lengths")
+    for sizes in ((2, 2, 2, 2), (5, 3, 4, 2), (2, 4, 3, 5), (513, HUGE, 512, 600)):
+        Y(B, [("?0", 0), ("!2", 20)], 0, 1, 2, [(1, 10), (2, 10)], [(2, -10), (1, 10)], sizes)
+    Y(B, [("?0", 100), ("!2", 161)], 0, 2, 2, [(1, 110), (2, 131)], (), (3, 4, 5, 6))
+    title("orders: refusals 1, 2 and 3 of a property, before all others")
+    for p, want in ((prop([]), 1), (prop(["?0"] * 32, n=33), 1), (prop(["?0"], lb=0), 2), (prop(["?0"], ub=60_000_001), 2),
+                    (prop(["?64"]), 3), (prop(["?0", "!64"]), 3)):
+        Y(p, [("?0", 100)], want)
+    Y(prop([]), [("?64", LIMIT + 1)], 1, sizes=(0, 0, 0, 0))
+    Y(prop(["?0"], lb=0), [("?0", 5), ("?0", 4)], 2)
+    title("orders: refusals 3, 4, 5 and 6 of the first line that is refused")
+    for act in ("?64", "!64", "!255"):
+        Y(B, [("?0", 100), (act, 100)], 3)
+    Y(B, [("?0", LIMIT + 1)], 4)
+    Y(B, [("?0", 100), ("!2", HUGE)], 4)
+    Y(B, [("?0", 100), ("!2", 99)], 5)
+    Y(B, [("!1", LIMIT), ("?0", 0)], 5)
+    Y(B, [("?0", 0)] * 64 + [("?0", 60)], 6)
+    Y(B, [("?0", 0)] * 64 + [("?0", 61)], 0, 0, 0, [(k, 10) for k in range(1, 65)] + [(65, 71)])
+    Y(B, [("?0", 0)] * 64 + [("!1", 0)], 0, 0, 0, [(65, -30)] + [(k, 10) for k in range(1, 65)])
+    title("orders: 3 before 4 and 5 of one line, and an earlier line first")
+    Y(B, [("?0", 100), ("?64", LIMIT + 1)], 3)
+    Y(B, [("?0", 100), ("?64", 99)], 3)
+    Y(B, [("?0", 100), ("!1", 99), ("?64", 100)], 5)
+    Y(B, [("?0", 100), ("!1", LIMIT + 1), ("!1", 99)], 4)
+    Y(B, [("?0", 0)] * 65 + [("?64", 0)], 6, sizes=(0, 0, 0, 0))
+    title("orders: 9 for each list, behind the lines' refusals")
+    for sizes in ((1, 2, 2, 2), (2, 1, 2, 2), (2, 2, 1, 2), (2, 2, 2, 1), (0, 0, 0, 0)):
+        Y(B, [("?0", 100), ("!2", 160)], 9, sizes=sizes)
+    Y(B, [("?0", 100), ("!2", 119)], 9, sizes=(2, 2, 0, 2))
+    Y(B, [("?0", 100), ("!2", 161)], 9, sizes=(2, 2, 2, 1))
+    Y(B, [], sizes=(0, 0, 0, 0))
+    Y(B, [("?0", 100), ("?64", 100)], 3, sizes=(0, 0, 0, 0))
+    title("orders: 256 lines, and 13 for one more, before 9 and behind the lines' refusals")
+    Y(B, pairs(127) + [("?0", 12_700), ("!2", 12_760)], 0, 1, 256, in_order(127) + [(255, 12_710), (256, 12_730)],
+      in_order(127) + [(256, 12_730), (255, 12_730)], [256] * 4)
+    Y(B, pairs(128) + [("?0", 12_861)], 13)
+    Y(B, pairs(128) + [("?0", 12_861)], 13, sizes=(256, 0, 0, 257))
+    Y(B, pairs(96) + [("?0", 10_000)] * 65, 6)
+    Y(B, pairs(128) + [("?64", 12_861)], 3)
+    title("orders: the session that stands is not touched")
+    F(B)
+    L("?0", 100)
+    Y(B, [("?0", 200), ("!2", 261)], 0, 2, 2, [(1, 210), (2, 231)])
+    L("!2", 160, 0, 1)
+    Y(B, [("?0", 200), ("!2", 199)], 5)
+    L("!2", 161, 0, 2)
+
+
 def build():
     for part in (at_the_start, properties, cases, drawn, lines, room, records_of_no_calls, walks, record_reader, record_writer,
-                 property_reader, judge, names, tap_reader):
+                 property_reader, judge, names, tap_reader, orders):
         part()
 
 
@@ -1063,7 +1170,7 @@ def check(text):
             if wrong == 10 or not isinstance(error, Wrong):
                 return False
             # to the next answer
-            letters = set("FLGWJPQRSVTNK?")
+            letters = set("FLGWJPQRSVTNKY?")
             while c.at < len(c.lines) and c.lines[c.at][:2].strip() not in letters:
                 c.at += 1
     if c.lines[c.at:] != [""]:
@@ -1099,7 +1206,7 @@ def main():
                 sys.exit(1)
     calls = [call for call in CALLS if call[0]]
     print("calls: %d calls in %d bytes answered as expected:" % (len(calls), len(script)))
-    for name in "FLGWJPQRSVTNK":
+    for name in "FLGWJPQRSVTNKY":
         print("  %s %s" % (name, ", ".join("%s %d" % ("taken" if want == 0 else "refusal %d" % want, n)
                                            for (of, want), n in sorted(kv for kv in COUNTS.items() if kv[0][0] == name))))
     print("  sessions held against all orders of their run: %d" % LISTED[0])

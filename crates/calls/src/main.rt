@@ -11,7 +11,7 @@ struct After {
 
 // One call, printed.
 fn turn(left: &[u8], s: Session) -> After {
-    let mut out = [0u8; 8192];
+    let mut out = [0u8; 32768];
     let r = console::call(left, s, &mut out);
     io::write_all(1, text::front(&out, r.printed));
     let after = r.session;

@@ -1,4 +1,5 @@
-// The calls that have nothing to do with a session: the judge, names, the packed forms, and the refusal of a property.
+// The calls that have nothing to do with a session: the judge, names, the packed forms, the refusal of a property, and orders.
+use crate::orders;
 use property::Property;
 use property_form::Written;
 use record_form::RecordRead;
@@ -15,7 +16,7 @@ pub struct Done {
     pub printed: usize,
 }
 
-fn leave(rest: &[u8], printed: usize) -> Done {
+pub fn leave(rest: &[u8], printed: usize) -> Done {
     Done {
         left: rest.len(),
         printed: printed,
@@ -170,6 +171,7 @@ pub fn call(name: u8, args: &[u8], out: &mut Page) -> Done {
         b'R' => read_record(args, out),
         b'S' => write_record(args, out),
         b'V' => refused(args, out),
+        b'Y' => orders::explain(args, out),
         _ => unknown(name, out),
     }
 }

@@ -1,5 +1,6 @@
 // A console for every public call: one call of a packed script (docs/CALLS.md), what it prints, and the session it leaves.
 mod forms;
+mod orders;
 
 use script::arguments;
 use script::text;

@@ -1,5 +1,6 @@
-// Properties and sessions in a script of calls (docs/CALLS.md): read from its bytes, and printed.
+// Properties, runs and sessions in a script of calls (docs/CALLS.md): read from its bytes, and printed.
 pub mod arguments;
+pub mod lines;
 pub mod text;
 
 use cuts::Row;

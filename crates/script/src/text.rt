@@ -2,7 +2,8 @@
 ghost use Prim.Native.Nat.{_≤_};
 ghost use lib.ListN.{length};
 
-pub type Page = [u8; 8192];
+// The longest answer is that of `Y` with its four lists of 512 places.
+pub type Page = [u8; 32768];
 
 fn put(out: &mut Page, at: usize, b: u8) -> usize {
     if at < out.len() {
@@ -41,15 +42,43 @@ fn top(v: u64) -> u64 {
     d
 }
 
-// A number in decimal, and a space before it.
-fn put_number(out: &mut Page, at: usize, v: u64) -> usize {
-    let mut n = put(out, at, b' ');
+// A number in decimal.
+fn put_digits(out: &mut Page, at: usize, v: u64) -> usize {
+    let mut n = at;
     let mut d = top(v);
     while 0 < d {
         n = put(out, n, digit(v / d % 10));
         d /= 10;
     }
     n
+}
+
+// The same, and a space before it.
+fn put_number(out: &mut Page, at: usize, v: u64) -> usize {
+    let n = put(out, at, b' ');
+    put_digits(out, n, v)
+}
+
+// How far a number is from 0. The lowest has no opposite of its type, so one is added behind the cast.
+fn size(v: i64) -> u64 {
+    if 0 <= v {
+        return v as u64;
+    }
+    (-1 - v) as u64 + 1
+}
+
+fn put_sign(out: &mut Page, at: usize, v: i64) -> usize {
+    if 0 <= v {
+        return at;
+    }
+    put(out, at, b'-')
+}
+
+// A number in decimal with its sign where it is below 0, and a space before it.
+fn put_signed(out: &mut Page, at: usize, v: i64) -> usize {
+    let spaced = put(out, at, b' ');
+    let n = put_sign(out, spaced, v);
+    put_digits(out, n, size(v))
 }
 
 // A name and numbers.
@@ -66,6 +95,17 @@ pub fn put_numbers(out: &mut Page, at: usize, name: &[u8], numbers: &[u64]) -> u
 // The same, and an end of the line.
 pub fn put_line(out: &mut Page, at: usize, name: &[u8], numbers: &[u64]) -> usize {
     let n = put_numbers(out, at, name, numbers);
+    put(out, n, b'\n')
+}
+
+// A name and numbers with their signs, and an end of the line.
+pub fn put_signed_line(out: &mut Page, at: usize, name: &[u8], numbers: &[i64]) -> usize {
+    let mut n = put_text(out, at, name);
+    let mut i = 0;
+    while i < numbers.len() {
+        n = put_signed(out, n, numbers[i]);
+        i += 1;
+    }
     put(out, n, b'\n')
 }
 
