@@ -16,3 +16,4 @@ pub mod Same
 pub mod Named
 pub mod Names
 pub mod Told
+pub mod Why

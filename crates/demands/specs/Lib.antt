@@ -5,3 +5,4 @@ pub mod Uses
 pub mod Listing
 pub mod Names
 pub mod Told
+pub mod Why

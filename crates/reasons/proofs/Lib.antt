@@ -7,3 +7,4 @@ pub mod Search
 pub mod Questions
 pub mod Exists
 pub mod Numbers
+pub mod Lines

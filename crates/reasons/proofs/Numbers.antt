@@ -64,3 +64,15 @@ numbers-name run order o =
     both-named run (numbers-of gets-in 1 run) (numbers-of goes-out 1 run) order
     (subst (Names run (numbers-of gets-in 1 run)) (sym (o .inputs-kept)) (ins-named [] run))
     (subst (Names run (numbers-of goes-out 1 run)) (sym (o .outputs-kept)) (outs-named [] run))
+
+-- An order has as many lines as the run.
+channels-long : (u : List Line) → length (ins u) + length (outs u) ≡ length u
+channels-long [] = omega arith
+channels-long (l ∷ u) = go (l .action) (channels-long u)
+  where
+    go : (a : Action) → length (ins u) + length (outs u) ≡ length u → length (keep-input a l (ins u)) + length (keep-output a l (outs u)) ≡ suc (length u)
+    go (Action.input k) e = omega arith
+    go (Action.output k) e = omega arith
+
+pub order-long : (run order : List Line) → Order run order → length order ≡ length run
+order-long run order o = sym (channels-long order) ∙ ap₂ _+_ (ap length (o .inputs-kept)) (ap length (o .outputs-kept)) ∙ channels-long run
