@@ -1,12 +1,12 @@
 -- Document 02, CR 6, as theorems: `why::explain`.
-use Prim.Native.Nat.{ℕ, zero, suc, _≤_, _<_}
+use Prim.Native.Nat.{ℕ, zero, suc, _^_, _<_}
 use mathlib.Core.Path.{_≡_, refl, sym, ap, ap₂, _∙_, subst}
 use mathlib.Core.Bool.{false, _||_}
 use mathlib.Core.List.{List, [], _∷_, _++_, append-nil}
 use native.Mathlib.Omega.{arith}
 use lib.ListN.{length, take, drop, length-append}
 use lib.Dec.{ltb}
-use lib.IntN.{ℤ}
+use lib.IntN.{ℤ, pos, negsuc}
 use Rattle.meaning.specs.Words.{Line, Run, StampsFrom}
 use Rattle.meaning.specs.Words
 use Rattle.meaning.specs.Node.{Order, Explanation, Given, Breaks, Verdict, verdict-number, IsVerdict}
@@ -24,9 +24,13 @@ use Rattle.why.specs.declared.Reason.{Reason}
 use Rattle.why.specs.Lent.{Lines, count, run-of}
 use Rattle.why.specs.Why.{Pair, shorter, uneven, why-refusal, over, Shows, ShowsBy, Told, ReasonBy, IsReason}
 use Rattle.why.proofs.Determined.{taken-parts}
+use Rattle.printout.specs.Text.{decimal}
+use Rattle.printout.specs.Reason.{signed}
 use Rattle.demands.specs.Refuses.{Refuses}
+use Rattle.demands.specs.Listing.{InDecimal}
 use Rattle.demands.specs.Why.{Shown, ShownBy, FirstReached}
 use Rattle.demands.proofs.Running.{running, running-number}
+use Rattle.demands.proofs.Digits.{decimal-reads}
 
 -- ==== Refusals: "the property's 1, 2, 3 and the lines' 3, 4, 5, 6 as a session gives them, then 13 .., then 9 ..; what is refused alters no
 -- list". 7 is for lists of a run that are not equally long.
@@ -174,3 +178,12 @@ demand-why p ls l l2 r m m2 h e = go (why-refusal p ls l l2) refl h
               };
           orders = shown-by (h .verdict) (meant p) (run-of ls) l l2 m m2 (h .orders);
         }
+
+-- ==== `number moment`, as `printout::reason::placed` writes it: a moment is shown in decimal, a negative one behind a minus sign.
+pub moment-reads : (n : ℕ) → n < 2 ^ 64 → InDecimal n (signed (pos n))
+unfolding signed
+moment-reads n h = decimal-reads n h
+
+pub moment-below-reads : (n : ℕ) → suc n < 2 ^ 64 → (rest : List ℕ) × (signed (negsuc n) ≡ 45 ∷ rest) × InDecimal (suc n) rest
+unfolding signed
+moment-below-reads n h = (decimal (suc n), refl, decimal-reads (suc n) h)
