@@ -20,9 +20,10 @@ use Rattle.reasons.proofs.Lines.{as-calls, takes-all, StopsAt, stops-at}
 use Rattle.property.specs.Meant.{meant}
 use Rattle.property.specs.declared.Property.{Property}
 use Rattle.session_record.specs.Step.{stepped-of}
-use Rattle.why.specs.declared.Reason.{Reason}
-use Rattle.why.specs.Lent.{Lines, count, run-of}
-use Rattle.why.specs.Why.{Pair, shorter, uneven, why-refusal, over, Shows, ShowsBy, Told, ReasonBy, IsReason}
+use Rattle.judged_rest.specs.declared.Reason.{Reason}
+use Rattle.judged_rest.specs.Lent.{Lines, count, run-of}
+use Rattle.first_order.specs.Search.{Pair}
+use Rattle.why.specs.Why.{shorter, uneven, why-refusal, over, Shows, ShowsBy, Told, ReasonBy, IsReason}
 use Rattle.why.proofs.Determined.{taken-parts}
 use Rattle.printout.specs.Text.{decimal}
 use Rattle.printout.specs.Reason.{signed}

@@ -7,7 +7,7 @@ use lib.ListN.{length, take, drop}
 use Rattle.meaning.specs.Words.{Property, Line, Run}
 use Rattle.meaning.specs.Node.{Explanation, Breaks, Verdict, IsVerdict}
 use Rattle.reasons.specs.Reasons.{Earliest, Sooner, Any, Names}
-use Rattle.why.specs.Why.{Pair}
+use Rattle.first_order.specs.Search.{Pair}
 
 -- An order stands in a pair of lists.
 pub record Shown (p : Property) (run : Run) (Sort : List Line → Type 0) (before after : Pair) : Type 0 where

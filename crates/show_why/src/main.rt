@@ -14,13 +14,13 @@ ghost use Rattle.session_record.specs.Lent.{in-arrays, Ready};
 ghost use Rattle.why.specs.Why.{most-lines};
 ghost use Rattle.show_why.specs.Kept.{in-lines, Keeps, Goes, Next, Open};
 use held::Status;
+use judged_rest::Reason;
 use libc::STDIN_FILENO;
 use property::Property;
 use record_form::RecordRead;
 use session_record::Session;
 use walk::Did;
 use why::MOST_LINES;
-use why::Reason;
 
 // What a record did, and the numbers beside the arrays after it.
 struct Turn {

@@ -19,10 +19,12 @@ use Rattle.meaning.proofs.Refusals.{first-of-given}
 use Rattle.reasons.specs.Reasons.{lines-refusal}
 use Rattle.property.specs.Meant.{meant}
 use Rattle.property.specs.declared.Property.{Property}
-use Rattle.why.specs.declared.Reason.{Reason}
-use Rattle.why.specs.Lent.{Lines, stamp-at, line-in, count, run-of}
-use Rattle.why.specs.Why.{most-lines, Pair, shorter, size-refusal, uneven, why-refusal, Told, ReasonBy, IsReason}
-use Rattle.why.specs.Search.{Judged, refused-by, judged, start, Sized}
+use Rattle.judged_rest.specs.declared.Reason.{Reason}
+use Rattle.judged_rest.specs.Lent.{Lines, stamp-at, line-in, count, run-of}
+use Rattle.first_order.specs.Search.{Pair}
+use Rattle.why.specs.Why.{most-lines, shorter, size-refusal, uneven, why-refusal, Told, ReasonBy, IsReason}
+use Rattle.judged_rest.specs.Judged.{Judged, refused-by, judged}
+use Rattle.first_order.specs.Search.{start, Sized}
 use Rattle.why.proofs.Whole.{AllTaken, all-taken}
 use Rattle.why.proofs.Judgement.{Taken, Sofar, all-of, stopped, sofar}
 

@@ -20,9 +20,10 @@ use Rattle.matcher.specs.declared.Cut.{Cut}
 use Rattle.matcher.specs.Sets.{set-of, cut-of, Fits}
 use Rattle.matcher.proofs.Words.{set-back, short-fits, moved-short}
 use Rattle.cuts.specs.Steps.{line-of}
-use Rattle.why.specs.declared.Reached.{Reached}
-use Rattle.why.specs.Lent.{Lines, is-output, line-in, count}
-use Rattle.why.specs.Search.{waits, kind-in}
+use Rattle.judged_rest.specs.declared.Reached.{Reached}
+use Rattle.judged_rest.specs.Lent.{Lines, is-output, line-in, count}
+use Rattle.judged_rest.specs.Judged.{waits}
+use Rattle.first_order.specs.Search.{kind-in}
 use Rattle.why.proofs.Left.{left, on}
 
 -- the inputs, or outputs, from a place on: of each what g says

@@ -15,9 +15,10 @@ use Rattle.reasons.proofs.Earliest.{earliest-unique}
 use Rattle.reasons.proofs.Reached.{one-verdict, reached-unique}
 use Rattle.property.specs.Meant.{meant}
 use Rattle.property.specs.declared.Property.{Property}
-use Rattle.why.specs.declared.Reason.{Reason}
-use Rattle.why.specs.Lent.{Lines, count, run-of}
-use Rattle.why.specs.Why.{Pair, pair, uneven, size-refusal, why-refusal, over, Shows, ShowsBy, Told, Refused, ReasonBy, IsReason}
+use Rattle.judged_rest.specs.declared.Reason.{Reason}
+use Rattle.judged_rest.specs.Lent.{Lines, count, run-of}
+use Rattle.first_order.specs.Search.{Pair, pair}
+use Rattle.why.specs.Why.{uneven, size-refusal, why-refusal, over, Shows, ShowsBy, Told, Refused, ReasonBy, IsReason}
 use Rattle.why.proofs.Judgement.{Sofar, all-of, stopped, sofar}
 
 -- the run of a call that is taken: stamps never fall

@@ -30,10 +30,12 @@ use Rattle.property.specs.Meant.{meant}
 use Rattle.property.specs.declared.Property.{Property}
 use Rattle.matcher.specs.Sets.{set-of, cut-of}
 use Rattle.matcher.proofs.Words.{set-back, start-short}
-use Rattle.why.specs.declared.Reason.{Reason}
-use Rattle.why.specs.Lent.{Lines, is-output, line-in, count, run-of}
-use Rattle.why.specs.Why.{Pair, Shows, ShowsBy, Told, over}
-use Rattle.why.specs.Search.{waits, kind-in, reaches, judged, Judged, Sized, start, choice, placed, place, number-at, Found, moment-at, Written}
+use Rattle.judged_rest.specs.declared.Reason.{Reason}
+use Rattle.judged_rest.specs.Lent.{Lines, is-output, line-in, count, run-of}
+use Rattle.first_order.specs.Search.{Pair}
+use Rattle.why.specs.Why.{Shows, ShowsBy, Told, over}
+use Rattle.judged_rest.specs.Judged.{waits, judged, Judged}
+use Rattle.first_order.specs.Search.{kind-in, reaches, Sized, start, choice, placed, place, number-at, Found, moment-at, Written}
 use Rattle.why.proofs.Left.{left, both-kinds}
 use Rattle.why.proofs.Whole.{AllTaken, all-taken}
 use Rattle.why.proofs.Judgement.{says, Taken}

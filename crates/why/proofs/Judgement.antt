@@ -30,10 +30,11 @@ use Rattle.property.specs.declared.Property.{Property}
 use Rattle.matcher.specs.Sets.{set-of, cut-of}
 use Rattle.matcher.proofs.Words.{set-back, start-short}
 use Rattle.cuts.specs.Steps.{refusal-by, answer-by, next-by, taken-by, told-by}
-use Rattle.why.specs.declared.Reason.{Reason}
-use Rattle.why.specs.Lent.{Lines, is-output, line-in}
-use Rattle.why.specs.Search.{Judged, waits, refused-by, told-then, judged-line, turned, begun, judged, start}
-use Rattle.why.specs.Search
+use Rattle.judged_rest.specs.declared.Reason.{Reason}
+use Rattle.judged_rest.specs.Lent.{Lines, is-output, line-in}
+use Rattle.judged_rest.specs.Judged.{Judged, waits, refused-by, told-then, judged-line, turned, begun, judged}
+use Rattle.first_order.specs.Search.{start}
+use Rattle.judged_rest.specs.Judged
 use Rattle.why.proofs.Whole.{taken-lines, lines-snoc, taken-snoc}
 
 -- a session over cuts whose run is open
@@ -71,7 +72,7 @@ module _ (p : Property) where
         told =
             let a : Calls.Answer =
             unless-taken (refusal-by p (open-cuts f t) (Call.line l)) (told-by p (open-cuts f t) (Call.line l)) (Calls.refused (refusal-by p (open-cuts f t) (Call.line l))) e i in
-            Search.told-by (a .refusal) (says v line) (a .verdict) k;
+            Judged.told-by (a .refusal) (says v line) (a .verdict) k;
       })
       ∙ ap (λ (r : Reason). record { cuts = open-cuts (front-with (meant p) (lengths (meant p)) f l) (l .stamp); told = r })
       (told-as v (verdict-number (front-verdict (meant p) (lengths (meant p)) (front-with (meant p) (lengths (meant p)) f l))) line k)
@@ -80,7 +81,7 @@ module _ (p : Property) where
   pub line-refused : (f : Front Lengths) (t v line : ℕ) (l : Line) (k n : ℕ) → refusal-by p (open-cuts f t) (Call.line l) ≡ suc n
       → judged-line p l k (record { cuts = open-cuts f t; told = says v line }) .told ≡ refused-by (suc n)
   line-refused f t v line l k n e =
-      ap (λ (a : Calls.Answer). Search.told-by (a .refusal) (says v line) (a .verdict) k)
+      ap (λ (a : Calls.Answer). Judged.told-by (a .refusal) (says v line) (a .verdict) k)
       (unless-kept (refusal-by p (open-cuts f t) (Call.line l)) (told-by p (open-cuts f t) (Call.line l)) (Calls.refused (refusal-by p (open-cuts f t) (Call.line l)))
       (λ z. let w : suc n ≡ 0 = sym e ∙ z in omega arith)
       ∙ ap Calls.refused e)

@@ -1,19 +1,14 @@
+-- The lines of a run, judged: all of them, and what is left of them behind a beginning of an order.
 pub mod Left
-pub mod Steps
-pub mod NextPlace
-pub mod Moments
-pub mod Turns
-pub mod Choices
-pub mod Orders
-pub mod Timing
-pub mod Writing
 pub mod Whole
 pub mod Judgement
 pub mod Rest
+-- The order that is written is the first.
 pub mod Channel
 pub mod Placing
 pub mod Route
 pub mod Showing
+-- The call's answer, and that it is one.
 pub mod Explaining
 pub mod Answers
 pub mod Determined

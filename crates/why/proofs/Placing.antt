@@ -30,11 +30,12 @@ use Rattle.property.specs.Meant.{meant, action-of}
 use Rattle.property.specs.declared.Property.{Property}
 use Rattle.matcher.specs.Sets.{Fits}
 use Rattle.cuts.specs.Steps.{line-of}
-use Rattle.why.specs.declared.Reached.{Reached}
-use Rattle.why.specs.Lent.{Lines, is-output, stamp-at, line-in, count}
-use Rattle.why.specs.Search.{next-from, kind-in, next-place, reaches, with-line, placed-next, judged, choice, placed}
-use Rattle.why.proofs.NextPlace.{IsNext, is-next}
-use Rattle.why.proofs.Choices.{no-output, no-input, too-far, reached, not-reached}
+use Rattle.judged_rest.specs.declared.Reached.{Reached}
+use Rattle.judged_rest.specs.Lent.{Lines, is-output, stamp-at, line-in, count}
+use Rattle.judged_rest.specs.Judged.{judged}
+use Rattle.first_order.specs.Search.{next-from, kind-in, next-place, reaches, with-line, placed-next, choice, placed}
+use Rattle.first_order.proofs.NextPlace.{IsNext, is-next}
+use Rattle.first_order.proofs.Choices.{no-output, no-input, too-far, reached, not-reached}
 use Rattle.why.proofs.Left.{left, on-none, on-next}
 use Rattle.why.proofs.Whole.{AllTaken}
 use Rattle.why.proofs.Rest.{waiting, judged-rest, waiting-rises}

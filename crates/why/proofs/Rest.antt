@@ -29,9 +29,9 @@ use Rattle.property.specs.Meant.{meant}
 use Rattle.property.specs.declared.Property.{Property}
 use Rattle.matcher.specs.Sets.{set-of}
 use Rattle.cuts.specs.Steps.{refusal-by}
-use Rattle.why.specs.declared.Reached.{Reached}
-use Rattle.why.specs.Lent.{Lines, is-output, line-in, count}
-use Rattle.why.specs.Search.{Judged, waits, judged-line, turned, judged}
+use Rattle.judged_rest.specs.declared.Reached.{Reached}
+use Rattle.judged_rest.specs.Lent.{Lines, is-output, line-in, count}
+use Rattle.judged_rest.specs.Judged.{Judged, waits, judged-line, turned, judged}
 use Rattle.why.proofs.Left.{left, left-next, left-zero}
 use Rattle.why.proofs.Whole.{AllTaken}
 use Rattle.why.proofs.Judgement.{open-cuts, says, line-then, line-taken}

@@ -21,9 +21,9 @@ use Rattle.matcher.specs.Sets.{set-of}
 use Rattle.meaning.specs.Matcher.{is-input}
 use Rattle.property.specs.Meant.{meant, action-of}
 use Rattle.property.specs.declared.Property.{Property}
-use Rattle.why.specs.Lent.{Lines, is-output, stamp-at, line-in, count}
+use Rattle.judged_rest.specs.Lent.{Lines, is-output, stamp-at, line-in, count}
 use Rattle.why.specs.Why.{over}
-use Rattle.why.specs.Search.{kind-in, low-at, late, moment-of, moment-at}
+use Rattle.first_order.specs.Search.{kind-in, low-at, late, moment-of, moment-at}
 use Rattle.why.proofs.Left.{left, on}
 use Rattle.why.proofs.Channel.{channel}
 

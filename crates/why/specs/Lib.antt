@@ -1,4 +1,2 @@
--- What a human must believe of the call (`Why`), and words for how the orders are found, which theorems tie to it (`Search`).
-pub mod Lent
+-- What a human must believe of the call.
 pub mod Why
-pub mod Search

@@ -14,20 +14,13 @@ use Rattle.meaning.specs.Calls.{fresh}
 use Rattle.reasons.specs.Reasons.{Earliest, FirstExplanation, Any, ReachedAt, line-numbers, lines-refusal}
 use Rattle.property.specs.Meant.{meant}
 use Rattle.property.specs.declared.Property.{Property}
-use Rattle.why.specs.declared.Reason.{Reason}
-use Rattle.why.specs.Lent.{Lines, count, run-of}
+use Rattle.first_order.specs.Search.{Pair}
+use Rattle.judged_rest.specs.declared.Reason.{Reason}
+use Rattle.judged_rest.specs.Lent.{Lines, count, run-of}
 
 -- "For a run of up to 256 lines"
 abbrev pub most-lines : ℕ
 most-lines = 256
-
--- A pair of lists, "numbers and moments".
-pub record Pair : Type 0 where
-  pub numbers : List ℕ
-  pub moments : List ℤ
-
-abbrev pub pair : List ℕ → List ℤ → Pair
-pair numbers moments = record { numbers = numbers; moments = moments }
 
 -- "13, more than 256 lines in the run; 9, any list shorter than the run; 13 before 9, both last."
 abbrev pub shorter : Pair → ℕ → Bool

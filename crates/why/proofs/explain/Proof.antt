@@ -12,11 +12,13 @@ use Rattle.meaning.proofs.Tests.{or-left, or-right}
 use Rattle.property.specs.Meant.{meant}
 use Rattle.matcher.specs.declared.Cut.{Cut}
 use Rattle.matcher.specs.Sets.{Fits}
-use Rattle.why.specs.declared.Reason.{Reason}
-use Rattle.why.specs.Lent.{Lines, lent}
-use Rattle.why.specs.Why.{Pair, pair, shorter}
-use Rattle.why.specs.Search.{judged, start, Found}
-use Rattle.why.proofs.Orders.{start-fits}
+use Rattle.judged_rest.specs.declared.Reason.{Reason}
+use Rattle.judged_rest.specs.Lent.{Lines, lent}
+use Rattle.first_order.specs.Search.{Pair, pair}
+use Rattle.why.specs.Why.{shorter}
+use Rattle.judged_rest.specs.Judged.{judged}
+use Rattle.first_order.specs.Search.{start, Found}
+use Rattle.first_order.proofs.Orders.{start-fits}
 use Rattle.why.proofs.Answers.{by-property, by-output, by-action, by-lines, is-taken, is-sized, by-many, by-short, by-told}
 use Rattle.why.proofs.Explaining.{places-found, answer-suspect, answer-other}
 use Rattle.why.proofs.explain.Statement.{statement}

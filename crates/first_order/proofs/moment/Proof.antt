@@ -1,0 +1,20 @@
+-- `first_order::moment` meets its contract.
+use borrow.Author.Needs.{needs}
+use Rattle.first_order.proofs.Moments.{moment-fits, moment-is}
+use Rattle.first_order.proofs.moment.Statement.{statement}
+use Rattle.first_order.proofs.moment.Tie as tie
+
+cast-result : tie.Need-cast-result
+cast-result c = search needs
+
+cast-result-2 : tie.Need-cast-result-2
+cast-result-2 c = search needs
+
+sub-result : tie.Need-sub-result
+sub-result c = moment-fits (c .args .m) (c .args .ub) (c .pre .0) (c .pre .1)
+
+returns : tie.Need-returns
+returns c = moment-is (c .args .m) (c .args .ub) (c .pre .0) (c .pre .1)
+
+pub moment-spec : {M : Type 1} → statement M
+moment-spec = tie.close (tie.spec cast-result cast-result-2 sub-result returns)
