@@ -14,3 +14,6 @@ pub const LAST_STAMP: u64 = 1099511627775;
 
 // "At most 64 inputs may be open"
 pub const MOST_OPEN: usize = 64;
+
+// Document 02, CR 6 (`reasons`, specs/Reasons.antt): "a run of up to 256 lines"
+pub const MOST_LINES: usize = 256;

@@ -1,10 +1,11 @@
 -- Among orders there is at most one first.
 use Prim.Native.Nat.{ℕ}
-use mathlib.Core.Path.{_≡_, sym, _∙_, ap}
+use mathlib.Core.Path.{_≡_, refl, sym, _∙_, ap}
 use mathlib.Core.Logic.{_⊎_, inl, inr}
 use mathlib.Core.Bool.{true≢false}
 use mathlib.Core.List.{List, [], _∷_, _++_, head-eq-of-cons-eq, tail-eq-of-cons-eq}
 use Rattle.meaning.specs.Words.{Action, Line}
+use Rattle.meaning.proofs.Channels.{IsIn, IsOut, In, Out}
 use Rattle.reasons.specs.Reasons.{Sooner, First, gets-in}
 
 abbrev sent : ℕ → ℕ → Line
@@ -37,3 +38,29 @@ first-unique o o′ h k = go (h .first o′ (k .fits)) (k .first o (h .fits))
     go (inl e) y = e
     go (inr a) (inl e) = sym e
     go (inr a) (inr b) = absurd (not-both a b)
+
+-- one line more in front of both
+pub sooner-cons : (z : Line) {o o′ : List Line} → Sooner o o′ → Sooner (z ∷ o) (z ∷ o′)
+sooner-cons z s =
+    record {
+      same = z ∷ s .same;
+      output = s .output;
+      sent = s .sent;
+      after = s .after;
+      input = s .input;
+      got = s .got;
+      behind = s .behind;
+      one = ap (λ (l : List Line). z ∷ l) (s .one);
+      two = ap (λ (l : List Line). z ∷ l) (s .two);
+    }
+
+-- an output here and an input there
+pub sooner-here : (y x : Line) → Out y → In x → (u v : List Line) → Sooner (y ∷ u) (x ∷ v)
+sooner-here y x = go (y .action) (y .stamp) (x .action) (x .stamp)
+  where
+    go : (a : Action) (s : ℕ) (c : Action) (t : ℕ) → IsOut a → IsIn c → (u v : List Line)
+        → Sooner (record { action = a; stamp = s } ∷ u) (record { action = c; stamp = t } ∷ v)
+    go (Action.output k) s (Action.input j) t o i u v =
+        record { same = []; output = k; sent = s; after = u; input = j; got = t; behind = v; one = refl; two = refl }
+    go (Action.output k) s (Action.output j) t o i u v = absurd i
+    go (Action.input k) s c t o i u v = absurd o

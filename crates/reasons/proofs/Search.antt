@@ -10,38 +10,13 @@ use lib.Dec.{leb}
 use borrow.Author.Tests.{leb-true, leb-false}
 use Rattle.meaning.specs.Words.{Action, Property, Line, StampsFrom}
 use Rattle.meaning.specs.Node.{ins, outs, InputFirst, OutputFirst}
-use Rattle.meaning.proofs.Lists.{All, done, also, all-head, all-map, all-both, all-ins, all-outs, all-channels, from-all}
+use Rattle.meaning.proofs.Lists.{All, done, also, all-head, all-tail, all-map, all-both, all-ins, all-outs, all-channels, from-all, from-weaker}
 use Rattle.meaning.proofs.Pairs.{Bounds, May, Pairs, none, first}
 use Rattle.meaning.proofs.Channels.{IsIn, IsOut, In, Out, in-or-out, ins-cons, outs-skip, outs-cons, ins-skip, in-in, out-out, in-out, out-in, in-out-asks, out-in-asks}
 use Rattle.meaning.proofs.OneLine.{empty-channels}
-use Rattle.meaning.proofs.Sets.{Matcher, along, along-none}
+use Rattle.meaning.proofs.Sets.{Matcher, along}
 use Rattle.reasons.specs.Reasons.{Sooner, First}
-
--- one line more in front of both
-sooner-cons : (z : Line) {o o′ : List Line} → Sooner o o′ → Sooner (z ∷ o) (z ∷ o′)
-sooner-cons z s =
-    record {
-      same = z ∷ s .same;
-      output = s .output;
-      sent = s .sent;
-      after = s .after;
-      input = s .input;
-      got = s .got;
-      behind = s .behind;
-      one = ap (λ (l : List Line). z ∷ l) (s .one);
-      two = ap (λ (l : List Line). z ∷ l) (s .two);
-    }
-
--- an output here and an input there
-sooner-here : (y x : Line) → Out y → In x → (u v : List Line) → Sooner (y ∷ u) (x ∷ v)
-sooner-here y x = go (y .action) (y .stamp) (x .action) (x .stamp)
-  where
-    go : (a : Action) (s : ℕ) (c : Action) (t : ℕ) → IsOut a → IsIn c → (u v : List Line)
-        → Sooner (record { action = a; stamp = s } ∷ u) (record { action = c; stamp = t } ∷ v)
-    go (Action.output k) s (Action.input j) t o i u v =
-        record { same = []; output = k; sent = s; after = u; input = j; got = t; behind = v; one = refl; two = refl }
-    go (Action.output k) s (Action.output j) t o i u v = absurd i
-    go (Action.input k) s c t o i u v = absurd o
+use Rattle.reasons.proofs.First.{sooner-cons, sooner-here}
 
 module _ (p : Property) (b : Bounds p) (M : Matcher) (Ends : M .State → Type 0) where
   -- An order of these inputs and these outputs to which moments can be given, and which leads from a state to the wanted end.
@@ -54,8 +29,7 @@ module _ (p : Property) (b : Bounds p) (M : Matcher) (Ends : M .State → Type 0
   abbrev pub Reach : List Line → List Line → M .State → Type 0
   Reach I O q = (order : List Line) × Fitting I O q order
 
-  -- How the order is found. Where both channels have a line left, the output comes first if the next input may stand behind it and
-  -- the wanted end can be reached from there.
+  -- How it is found. Where both channels have a line left, the output is first if it may be and the wanted end can be reached from there.
   pub data Found : List Line → List Line → M .State → List Line → Type 0 where
     over : {q : M .State} → Found [] [] q []
     outputs : {y : Line} {O o : List Line} {q : M .State} → Found [] O (M .step q y) o → Found [] (y ∷ O) q (y ∷ o)
@@ -135,11 +109,7 @@ module _ (p : Property) (b : Bounds p) (M : Matcher) (Ends : M .State → Type 0
       also (out-in p y x o i h) (all-map (λ z k. out-in p y z o (k .0) (let k′ : x .stamp ≤ z .stamp = k .1 in omega arith)) (all-both is (from-all I (f .1))))
 
   rest-rises : (z : Line) (l : List Line) → StampsFrom 0 (z ∷ l) → StampsFrom 0 l
-  rest-rises z [] f = tt
-  rest-rises z (w ∷ l) f = (omega arith, f .1 .1)
-
-  all-rest : {P : Line → Type 0} {z : Line} {l : List Line} → All P (z ∷ l) → All P l
-  all-rest (also h r) = r
+  rest-rises z l f = from-weaker l (omega arith) (f .1)
 
   -- The order so found is the first.
   pub found-first : {I O : List Line} {q : M .State} {o : List Line} → All In I → All Out O → StampsFrom 0 I → StampsFrom 0 O
@@ -149,7 +119,7 @@ module _ (p : Property) (b : Bounds p) (M : Matcher) (Ends : M .State → Type 0
         fits = subst (Fitting [] [] q) (empty-channels w (f .ins-are) (f .outs-are)) f;
         first = λ u g. inl (sym (empty-channels u (g .ins-are) (g .outs-are)));
       }
-  found-first ii oo fi fo (outputs {y} {O} {o} {q} r) (w, f) = go (λ h. found-first ii (all-rest oo) fi (rest-rises y O fo) r h) (head-of w f)
+  found-first ii oo fi fo (outputs {y} {O} {o} {q} r) (w, f) = go (λ h. found-first ii (all-tail oo) fi (rest-rises y O fo) r h) (head-of w f)
     where
       go : (Reach [] O (M .step q y) → First (Fitting [] O (M .step q y)) o) → {w : List Line} → Headed [] (y ∷ O) q w → First (Fitting [] (y ∷ O) q) (y ∷ o)
       go ih (nothing ei eo) = absurd (nil≢cons (sym eo))
@@ -166,7 +136,7 @@ module _ (p : Property) (b : Bounds p) (M : Matcher) (Ends : M .State → Type 0
           other tail (by-in x I′ u ei i mi mo g) = absurd (nil≢cons ei)
           other tail (by-out z Z v e out mi mo g) =
               subst (λ (l : Line). (y ∷ o ≡ l ∷ v) ⊎ Sooner (y ∷ o) (l ∷ v)) (head-eq-of-cons-eq e) (behind y tail v (same-out y z e g))
-  found-first ii oo fi fo (inputs {x} {I} {o} {q} r) (w, f) = go (λ h. found-first (all-rest ii) oo (rest-rises x I fi) fo r h) (head-of w f)
+  found-first ii oo fi fo (inputs {x} {I} {o} {q} r) (w, f) = go (λ h. found-first (all-tail ii) oo (rest-rises x I fi) fo r h) (head-of w f)
     where
       other : First (Fitting I [] (M .step q x)) o → {v : List Line} → Headed (x ∷ I) [] q v → (x ∷ o ≡ v) ⊎ Sooner (x ∷ o) v
       other tail (nothing ei eo) = absurd (nil≢cons (sym ei))
@@ -185,7 +155,7 @@ module _ (p : Property) (b : Bounds p) (M : Matcher) (Ends : M .State → Type 0
                 (subst (λ (l : Line). All (May p l) I) (sym (head-eq-of-cons-eq e)) (subst (All (May p z)) (sym (tail-eq-of-cons-eq e)) mi)) done (tail .fits);
             first = λ v k. other tail (head-of v k);
           }
-  found-first ii oo fi fo (output {x} {y} {I} {O} {o} {q} may reach r) (w, f) = go (found-first ii (all-rest oo) fi (rest-rises y O fo) r reach)
+  found-first ii oo fi fo (output {x} {y} {I} {O} {o} {q} may reach r) (w, f) = go (found-first ii (all-tail oo) fi (rest-rises y O fo) r reach)
     where
       other : First (Fitting (x ∷ I) O (M .step q y)) o → {v : List Line} → Headed (x ∷ I) (y ∷ O) q v → (y ∷ o ≡ v) ⊎ Sooner (y ∷ o) v
       other tail (nothing ei eo) = absurd (nil≢cons (sym ei))
@@ -199,7 +169,7 @@ module _ (p : Property) (b : Bounds p) (M : Matcher) (Ends : M .State → Type 0
             fits = with-out y (all-head oo) (before-ins y x I (all-head oo) ii fi may) (before-outs y O oo fo) (tail .fits);
             first = λ v k. other tail (head-of v k);
           }
-  found-first ii oo fi fo (input {x} {y} {I} {O} {o} {q} not r) (w, f) = go (λ h. found-first (all-rest ii) oo (rest-rises x I fi) fo r h) (head-of w f)
+  found-first ii oo fi fo (input {x} {y} {I} {O} {o} {q} not r) (w, f) = go (λ h. found-first (all-tail ii) oo (rest-rises x I fi) fo r h) (head-of w f)
     where
       -- no fitting order begins with the output
       never : (z : Line) {Z v : List Line} → y ∷ O ≡ z ∷ Z → All (May p z) (x ∷ I) → Fitting (x ∷ I) Z (M .step q z) v → ⊥
@@ -228,7 +198,6 @@ module _ (p : Property) (b : Bounds p) (M : Matcher) (Ends : M .State → Type 0
           }
 
   -- ---- where the wanted end can be told of a state, so can whether it can be reached
-
   -- an input may stand before later inputs, and before all outputs if it may before the first
   after-ins : (x : Line) (I : List Line) → All In (x ∷ I) → StampsFrom 0 (x ∷ I) → All (May p x) I
   after-ins x I (also i is) f = all-map (λ z h. in-in p b x z i (h .0) (h .1)) (all-both is (from-all I (f .1)))
@@ -281,7 +250,7 @@ module _ (p : Property) (b : Bounds p) (M : Matcher) (Ends : M .State → Type 0
         go (inr n) = inr (λ r. n (subst (λ (w : List Line). Ends (along M q w)) (empty-channels (r .0) (r .1 .ins-are) (r .1 .outs-are)) (r .1 .ends)))
     decided zero (x ∷ I) O q e ii oo fi fo = let z : ⊥ = omega arith in absurd z
     decided zero [] (y ∷ O) q e ii oo fi fo = let z : ⊥ = omega arith in absurd z
-    decided (suc m) [] (y ∷ O) q e ii oo fi fo = go (decided m [] O (M .step q y) (omega arith) ii (all-rest oo) fi (rest-rises y O fo))
+    decided (suc m) [] (y ∷ O) q e ii oo fi fo = go (decided m [] O (M .step q y) (omega arith) ii (all-tail oo) fi (rest-rises y O fo))
       where
         only : {w : List Line} → Headed [] (y ∷ O) q w → ¬ Reach [] O (M .step q y) → ⊥
         only (nothing ei eo) n = nil≢cons (sym eo)
@@ -291,7 +260,7 @@ module _ (p : Property) (b : Bounds p) (M : Matcher) (Ends : M .State → Type 0
         go : Decides [] O (M .step q y) → Decides [] (y ∷ O) q
         go (inl r) = inl (y ∷ r .0, with-out y (all-head oo) done (before-outs y O oo fo) (r .1))
         go (inr n) = inr (λ r. only (head-of (r .0) (r .1)) n)
-    decided (suc m) (x ∷ I) [] q e ii oo fi fo = go (decided m I [] (M .step q x) (omega arith) (all-rest ii) oo (rest-rises x I fi) fo)
+    decided (suc m) (x ∷ I) [] q e ii oo fi fo = go (decided m I [] (M .step q x) (omega arith) (all-tail ii) oo (rest-rises x I fi) fo)
       where
         only : {w : List Line} → Headed (x ∷ I) [] q w → ¬ Reach I [] (M .step q x) → ⊥
         only (nothing ei eo) n = nil≢cons (sym ei)
@@ -303,8 +272,8 @@ module _ (p : Property) (b : Bounds p) (M : Matcher) (Ends : M .State → Type 0
         go (inr n) = inr (λ r. only (head-of (r .0) (r .1)) n)
     decided (suc m) (x ∷ I) (y ∷ O) q e ii oo fi fo =
         either-first x y I O q ii oo fi fo
-        (decided m (x ∷ I) O (M .step q y) (omega arith) ii (all-rest oo) fi (rest-rises y O fo))
-        (decided m I (y ∷ O) (M .step q x) (omega arith) (all-rest ii) oo (rest-rises x I fi) fo)
+        (decided m (x ∷ I) O (M .step q y) (omega arith) ii (all-tail oo) fi (rest-rises y O fo))
+        (decided m I (y ∷ O) (M .step q x) (omega arith) (all-tail ii) oo (rest-rises x I fi) fo)
 
     -- the search goes through
     searched : (m : ℕ) (I O : List Line) (q : M .State) → length I + length O ≡ m → All In I → All Out O → StampsFrom 0 I → StampsFrom 0 O
@@ -312,12 +281,12 @@ module _ (p : Property) (b : Bounds p) (M : Matcher) (Ends : M .State → Type 0
     searched m [] [] q e ii oo fi fo = ([], over)
     searched zero (x ∷ I) O q e ii oo fi fo = let z : ⊥ = omega arith in absurd z
     searched zero [] (y ∷ O) q e ii oo fi fo = let z : ⊥ = omega arith in absurd z
-    searched (suc m) [] (y ∷ O) q e ii oo fi fo = let r = searched m [] O (M .step q y) (omega arith) ii (all-rest oo) fi (rest-rises y O fo) in (y ∷ r .0, outputs (r .1))
-    searched (suc m) (x ∷ I) [] q e ii oo fi fo = let r = searched m I [] (M .step q x) (omega arith) (all-rest ii) oo (rest-rises x I fi) fo in (x ∷ r .0, inputs (r .1))
+    searched (suc m) [] (y ∷ O) q e ii oo fi fo = let r = searched m [] O (M .step q y) (omega arith) ii (all-tail oo) fi (rest-rises y O fo) in (y ∷ r .0, outputs (r .1))
+    searched (suc m) (x ∷ I) [] q e ii oo fi fo = let r = searched m I [] (M .step q x) (omega arith) (all-tail ii) oo (rest-rises x I fi) fo in (x ∷ r .0, inputs (r .1))
     searched (suc m) (x ∷ I) (y ∷ O) q e ii oo fi fo =
-        go (leb (y .stamp) (x .stamp + 2 * p .UB)) (leb-true _ _) (leb-false _ _) (decided m (x ∷ I) O (M .step q y) (omega arith) ii (all-rest oo) fi (rest-rises y O fo))
-        (searched m (x ∷ I) O (M .step q y) (omega arith) ii (all-rest oo) fi (rest-rises y O fo))
-        (searched m I (y ∷ O) (M .step q x) (omega arith) (all-rest ii) oo (rest-rises x I fi) fo)
+        go (leb (y .stamp) (x .stamp + 2 * p .UB)) (leb-true _ _) (leb-false _ _) (decided m (x ∷ I) O (M .step q y) (omega arith) ii (all-tail oo) fi (rest-rises y O fo))
+        (searched m (x ∷ I) O (M .step q y) (omega arith) ii (all-tail oo) fi (rest-rises y O fo))
+        (searched m I (y ∷ O) (M .step q x) (omega arith) (all-tail ii) oo (rest-rises x I fi) fo)
       where
         go : (t : Bool) → (t ≡ true → y .stamp ≤ x .stamp + 2 * p .UB) → (t ≡ false → x .stamp + 2 * p .UB < y .stamp) → Decides (x ∷ I) O (M .step q y)
             → ((o : List Line) × Found (x ∷ I) O (M .step q y) o) → ((o : List Line) × Found I (y ∷ O) (M .step q x) o) → (o : List Line) × Found (x ∷ I) (y ∷ O) q o

@@ -13,6 +13,10 @@ use Rattle.meaning.specs.Numbers.{first-of}
 use Rattle.meaning.specs.Calls.{Call, Watch, refusal, taken}
 use Rattle.meaning.specs.Matcher.{is-input}
 
+-- "For a run of up to 256 lines"
+abbrev pub most-lines : ℕ
+most-lines = 256
+
 -- "moments are the earliest that the order allows": each the least that any moments of that order can have there.
 abbrev pub NoneLater : List ℤ → List ℤ → Type 0
 NoneLater [] [] = Unit {0}

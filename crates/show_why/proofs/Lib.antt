@@ -1,3 +1,2 @@
--- The proofs that belong to no one function: how a run is kept, and that it is the one that is open.
-pub mod Keeping
-pub mod Standing
+-- The loop over the records.
+pub mod Going

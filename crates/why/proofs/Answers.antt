@@ -16,13 +16,13 @@ use Rattle.meaning.specs.Numbers.{given, first-of, property-refusal}
 use Rattle.meaning.specs.Calls.{fresh}
 use Rattle.meaning.proofs.Tests.{or-left, or-right}
 use Rattle.meaning.proofs.Refusals.{first-of-given}
-use Rattle.reasons.specs.Reasons.{lines-refusal}
+use Rattle.reasons.specs.Reasons.{most-lines, lines-refusal}
 use Rattle.property.specs.Meant.{meant}
 use Rattle.property.specs.declared.Property.{Property}
 use Rattle.judged_rest.specs.declared.Reason.{Reason}
 use Rattle.judged_rest.specs.Lent.{Lines, stamp-at, line-in, count, run-of}
 use Rattle.first_order.specs.Search.{Pair}
-use Rattle.why.specs.Why.{most-lines, shorter, size-refusal, uneven, why-refusal, Told, ReasonBy, IsReason}
+use Rattle.why.specs.Why.{shorter, size-refusal, uneven, why-refusal, Told, ReasonBy, IsReason}
 use Rattle.judged_rest.specs.Judged.{Judged, refused-by, judged}
 use Rattle.first_order.specs.Search.{start, Sized}
 use Rattle.why.proofs.Whole.{AllTaken, all-taken}

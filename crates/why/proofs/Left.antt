@@ -116,3 +116,7 @@ both-kinds g f (suc n) = go (f n) (leb 0 n) (le-leb 0 n (omega arith)) (both-kin
     go false true e h =
         omega
         (arith, length-append (left (on f 0) g n) [], length-append (left (on (λ k. not (f k)) 0) g n) (g n ∷ []))
+
+pub no-length : {A : Type 0} (l : List A) → length l ≡ 0 → l ≡ []
+no-length [] e = refl
+no-length (x ∷ l) e = let z : ⊥ = omega arith in absurd z

@@ -6,8 +6,8 @@ pub mod Rest
 -- The order that is written is the first.
 pub mod Channel
 pub mod Placing
-pub mod Route
 pub mod Showing
+pub mod Route
 -- The call's answer, and that it is one.
 pub mod Explaining
 pub mod Answers

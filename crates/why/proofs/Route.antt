@@ -29,10 +29,11 @@ use Rattle.judged_rest.specs.Judged.{judged}
 use Rattle.first_order.specs.Search.{next-from, kind-in, next-place, reaches, with-line, placed-next, choice, placed}
 use Rattle.first_order.proofs.NextPlace.{IsNext, is-next}
 use Rattle.first_order.proofs.Choices.{no-output, no-input, too-far, reached, not-reached}
-use Rattle.why.proofs.Left.{on-none, on-next}
+use Rattle.why.proofs.Left.{no-length, on-none, on-next}
 use Rattle.why.proofs.Whole.{AllTaken}
 use Rattle.why.proofs.Channel.{channel, Only, only-next}
 use Rattle.why.proofs.Placing.{Can, asked}
+use Rattle.why.proofs.Showing.{numbered-in, numbered-out, numbered-none}
 
 -- the rest of an order, from what its first line has reached
 module _ (p : Property) (ls : Lines) (breaking : Bool) where
@@ -56,23 +57,6 @@ module _ (p : Property) (ls : Lines) (breaking : Bool) where
   route-none : {A : Type 0} (g : ℕ → A) (from : Reached) → route-of g from 0 ≡ []
   unfolding first
   route-none g from = refl
-
--- an input's number comes from the inputs', an output's from the outputs'
-numbered-in : (k : ℕ) (ins outs : List ℕ) (l : Line) (rest : List Line) → gets-in l ≡ true → numbered (k ∷ ins) outs (l ∷ rest) ≡ k ∷ numbered ins outs rest
-unfolding numbered
-numbered-in k ins outs l rest e = ap (λ (b : Bool). cond b (k ∷ numbered ins outs rest) (getD outs 0 0 ∷ numbered (k ∷ ins) (drop 1 outs) rest)) e
-
-numbered-out : (k : ℕ) (ins outs : List ℕ) (l : Line) (rest : List Line) → gets-in l ≡ false → numbered ins (k ∷ outs) (l ∷ rest) ≡ k ∷ numbered ins outs rest
-unfolding numbered
-numbered-out k ins outs l rest e = ap (λ (b : Bool). cond b (getD ins 0 0 ∷ numbered (drop 1 ins) (k ∷ outs) rest) (k ∷ numbered ins outs rest)) e
-
-numbered-none : (ins outs : List ℕ) → numbered ins outs [] ≡ []
-unfolding numbered
-numbered-none ins outs = refl
-
-no-length : {A : Type 0} (l : List A) → length l ≡ 0 → l ≡ []
-no-length [] e = refl
-no-length (x ∷ l) e = let z : ⊥ = omega arith in absurd z
 
 module _ (p : Property) (good : property-refusal (meant p) ≡ 0) (ls : Lines) (long : length (ls .output) ≡ count ls) (known : AllTaken (meant p) (line-in ls) (count ls))
     (rise : StampsFrom 0 (first (line-in ls) (count ls))) (breaking : Bool) where

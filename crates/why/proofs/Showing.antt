@@ -16,7 +16,7 @@ use Rattle.laws.proofs.Places.{length-first, first-snoc, getD-first, first-same
 use Rattle.meaning.specs.Words.{Action, Line, Run}
 use Rattle.meaning.specs.Words
 use Rattle.meaning.proofs.Pairs.{low, earliest}
-use Rattle.reasons.specs.Reasons.{gets-in, goes-out, numbers-of}
+use Rattle.reasons.specs.Reasons.{gets-in, goes-out, numbers-of, numbered}
 use Rattle.matcher.specs.Sets.{set-of}
 use Rattle.meaning.specs.Matcher.{is-input}
 use Rattle.property.specs.Meant.{meant, action-of}
@@ -37,7 +37,9 @@ filled-over z n g before after h f =
     len = length-first g n
 
     longer : length (over (first g n) before) ≡ length before
-    longer = length-append (first g n) (drop (length (first g n)) before) ∙ (let e : length (first g n) + length (drop (length (first g n)) before) ≡ length before = omega (arith, length-drop (length (first g n)) before, len) in e)
+    longer =
+        length-append (first g n) (drop (length (first g n)) before)
+        ∙ (let e : length (first g n) + length (drop (length (first g n)) before) ≡ length before = omega (arith, length-drop (length (first g n)) before, len) in e)
 
     go : (i : ℕ) (b : Bool) → (b ≡ true → i < n) → (b ≡ false → n ≤ i) → getD after i z ≡ getD (over (first g n) before) i z
     go i true y d =
@@ -95,6 +97,19 @@ out-numbers ls n = channel-numbers ls true goes-out (λ k. ap not (kind-of (is-o
     twice : (b : Bool) → not (not b) ≡ b
     twice true = refl
     twice false = refl
+
+-- an input's number comes from the inputs', an output's from the outputs'
+pub numbered-in : (k : ℕ) (ins outs : List ℕ) (l : Line) (rest : List Line) → gets-in l ≡ true → numbered (k ∷ ins) outs (l ∷ rest) ≡ k ∷ numbered ins outs rest
+unfolding numbered
+numbered-in k ins outs l rest e = ap (λ (b : Bool). cond b (k ∷ numbered ins outs rest) (getD outs 0 0 ∷ numbered (k ∷ ins) (drop 1 outs) rest)) e
+
+pub numbered-out : (k : ℕ) (ins outs : List ℕ) (l : Line) (rest : List Line) → gets-in l ≡ false → numbered ins (k ∷ outs) (l ∷ rest) ≡ k ∷ numbered ins outs rest
+unfolding numbered
+numbered-out k ins outs l rest e = ap (λ (b : Bool). cond b (getD ins 0 0 ∷ numbered (drop 1 ins) (k ∷ outs) rest) (k ∷ numbered ins outs rest)) e
+
+pub numbered-none : (ins outs : List ℕ) → numbered ins outs [] ≡ []
+unfolding numbered
+numbered-none ins outs = refl
 
 -- ---- earliest moments, place by place
 

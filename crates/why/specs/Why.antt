@@ -11,16 +11,12 @@ use Rattle.meaning.specs.Words
 use Rattle.meaning.specs.Node.{Breaks, Verdict, verdict-number, IsVerdict}
 use Rattle.meaning.specs.Numbers.{given, first-of, property-refusal}
 use Rattle.meaning.specs.Calls.{fresh}
-use Rattle.reasons.specs.Reasons.{Earliest, FirstExplanation, Any, ReachedAt, line-numbers, lines-refusal}
+use Rattle.reasons.specs.Reasons.{most-lines, Earliest, FirstExplanation, Any, ReachedAt, line-numbers, lines-refusal}
 use Rattle.property.specs.Meant.{meant}
 use Rattle.property.specs.declared.Property.{Property}
 use Rattle.first_order.specs.Search.{Pair}
 use Rattle.judged_rest.specs.declared.Reason.{Reason}
 use Rattle.judged_rest.specs.Lent.{Lines, count, run-of}
-
--- "For a run of up to 256 lines"
-abbrev pub most-lines : ℕ
-most-lines = 256
 
 -- "13, more than 256 lines in the run; 9, any list shorter than the run; 13 before 9, both last."
 abbrev pub shorter : Pair → ℕ → Bool

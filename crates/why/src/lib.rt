@@ -5,10 +5,8 @@ ghost use Rattle.first_order.specs.Search.{pair};
 ghost use Rattle.why.specs.Why.{IsReason};
 use judged_rest::Reached;
 use judged_rest::Reason;
+use limits::MOST_LINES;
 use property::Property;
-
-// "For a run of up to 256 lines".
-pub const MOST_LINES: usize = 256;
 
 // The orders of a run: for clear the first explanation in the first two lists, for suspect the first that breaks there and the first
 // that does not in the other two, for certain the first that breaks.

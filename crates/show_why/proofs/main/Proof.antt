@@ -1,5 +1,5 @@
 -- `show_why::main` is safe: records are read behind a property that was taken.
-use Rattle.show_why.proofs.Standing.{begins}
+use Rattle.show_why.proofs.Going.{begins}
 use borrow.Author.Needs.{needs}
 use Rattle.show_why.proofs.main.Statement.{statement}
 use Rattle.show_why.proofs.main.Tie as tie

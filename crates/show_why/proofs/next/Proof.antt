@@ -4,7 +4,7 @@ use mathlib.Core.List.{List}
 use native.Mathlib.Omega.{arith}
 use lib.ListN.{length, take, length-take}
 use Rattle.record_form.specs.Record.{record-size}
-use Rattle.show_why.proofs.Standing.{read-next}
+use Rattle.show_why.proofs.Going.{read-next}
 use borrow.Author.Needs.{needs}
 use Rattle.show_why.proofs.next.Statement.{statement}
 use Rattle.show_why.proofs.next.Tie as tie

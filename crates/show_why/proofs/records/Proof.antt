@@ -10,9 +10,9 @@ use Rattle.printout.specs.declared.Text.{Text}
 use Rattle.printout.specs.Text.{room}
 use Rattle.printout.proofs.Fits.{text-len, blind-fits}
 use borrow.Author.Needs.{needs}
-use Rattle.show_why.specs.Kept.{Lines, in-lines}
-use Rattle.show_why.proofs.Keeping.{keeps-fresh}
-use Rattle.show_why.proofs.Standing.{Going, going-fresh, going-on, going-open}
+use Rattle.open_run.specs.Kept.{Lines, in-lines}
+use Rattle.open_run.proofs.Keeping.{keeps-fresh}
+use Rattle.show_why.proofs.Going.{Going, going-fresh, going-on, going-open}
 use Rattle.show_why.proofs.records.Statement.{statement}
 use Rattle.show_why.proofs.records.Tie as tie
 

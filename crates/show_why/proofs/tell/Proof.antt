@@ -5,7 +5,7 @@ use mathlib.Core.List.{List}
 use native.Mathlib.Omega.{arith}
 use lib.ListN.{length, take}
 use lib.Seq.{length-take-le}
-use Rattle.why.specs.Why.{most-lines}
+use Rattle.reasons.specs.Reasons.{most-lines}
 use borrow.Author.Needs.{needs}
 use Rattle.show_why.proofs.tell.Statement.{statement}
 use Rattle.show_why.proofs.tell.Tie as tie

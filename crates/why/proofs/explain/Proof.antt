@@ -1,5 +1,5 @@
 -- `why::explain` meets its contract: refusal by refusal, and where there is none by what was judged and written.
-use Prim.Native.Nat.{ℕ, _≤_, _<_}
+use Prim.Native.Nat.{_≤_}
 use mathlib.Core.Path.{_≡_, refl, sym, ap, _∙_, subst}
 use mathlib.Core.Bool.{Bool, true, false}
 use native.Mathlib.Omega.{arith}
@@ -17,8 +17,10 @@ use Rattle.judged_rest.specs.Lent.{Lines, lent}
 use Rattle.first_order.specs.Search.{Pair, pair}
 use Rattle.why.specs.Why.{shorter}
 use Rattle.judged_rest.specs.Judged.{judged}
-use Rattle.first_order.specs.Search.{start, Found}
+use Rattle.first_order.specs.Search.{start, Sized, Found}
 use Rattle.first_order.proofs.Orders.{start-fits}
+use Rattle.reasons.specs.Reasons.{most-lines}
+use Rattle.why.proofs.Judgement.{Taken}
 use Rattle.why.proofs.Answers.{by-property, by-output, by-action, by-lines, is-taken, is-sized, by-many, by-short, by-told}
 use Rattle.why.proofs.Explaining.{places-found, answer-suspect, answer-other}
 use Rattle.why.proofs.explain.Statement.{statement}
@@ -46,6 +48,12 @@ good e = sym (e .before .refused .ensures) ∙ e .if1 .left
 
 good-of : (j : tie.After-judge) → property-refusal (meant (entry (answered j) .args .p)) ≡ 0
 good-of j = good (j .before .before .before .before .before .before)
+
+even-o : (j : tie.After-judge) → length (entry (answered j) .args .output .now) ≡ length (entry (answered j) .args .stamp .now)
+even-o j = j .before .before .before .before .before .if2 .left
+
+even-a : (j : tie.After-judge) → length (entry (answered j) .args .action .now) ≡ length (entry (answered j) .args .stamp .now)
+even-a j = j .before .before .before .before .if3 .left
 
 so : (j : tie.After-judge) → j .judge .result ≡ judged (entry (answered j) .args .p) (run (entry (answered j))) start (length (entry (answered j) .args .stamp .now)) .told
 so j =
@@ -100,7 +108,8 @@ returns-4 : tie.Need-returns-4
 returns-4 c =
     let j = c .before .before in
     let b = entry (answered j) in
-    by-lines (b .args .p) (run b) (one b) (two b) (good-of j) (j .before .before .before .before .before .if2 .left) (j .before .before .before .before .if3 .left) _ (so j) (c .if4 .taken)
+    by-lines (b .args .p) (run b) (one b) (two b) (good-of j) (even-o j) (even-a j) _ (so j)
+    (c .if4 .taken)
 
 refused-requires-5 : tie.Need-refused-requires-5
 refused-requires-5 c κs = search needs
@@ -109,7 +118,8 @@ returns-5 : tie.Need-returns-5
 returns-5 c =
     let j = c .before .before .before .before in
     let b = entry (answered j) in
-    by-many (b .args .p) (run b) (one b) (two b) (good-of j) (j .before .before .before .before .before .if2 .left) (j .before .before .before .before .if3 .left) _ (so j) (c .before .before .if4 .left) (c .before .if5 .taken) _ (c .refused5 .ensures)
+    by-many (b .args .p) (run b) (one b) (two b) (good-of j) (even-o j) (even-a j) _ (so j)
+    (c .before .before .if4 .left) (c .before .if5 .taken) _ (c .refused5 .ensures)
 
 refused-requires-6 : tie.Need-refused-requires-6
 refused-requires-6 c κs = search needs
@@ -118,7 +128,8 @@ returns-6 : tie.Need-returns-6
 returns-6 c =
     let j = c .before .before .before .before .before in
     let b = entry (answered j) in
-    by-short (b .args .p) (run b) (one b) (two b) (good-of j) (j .before .before .before .before .before .if2 .left) (j .before .before .before .before .if3 .left) _ (so j) (c .before .before .before .if4 .left) (c .before .before .if5 .left)
+    by-short (b .args .p) (run b) (one b) (two b) (good-of j) (even-o j) (even-a j) _ (so j)
+    (c .before .before .before .if4 .left) (c .before .before .if5 .left)
     (or-left (shorter (two b) (length (b .args .stamp .now))) (or-left (ltb (length (b .args .moments .now)) (length (b .args .stamp .now))) (lt-ltb _ _ (c .before .if6 .taken)))) _ (c .refused6 .ensures)
 
 refused-requires-7 : tie.Need-refused-requires-7
@@ -128,7 +139,8 @@ returns-7 : tie.Need-returns-7
 returns-7 c =
     let j = c .before .before .before .before .before .before in
     let b = entry (answered j) in
-    by-short (b .args .p) (run b) (one b) (two b) (good-of j) (j .before .before .before .before .before .if2 .left) (j .before .before .before .before .if3 .left) _ (so j) (c .before .before .before .before .if4 .left) (c .before .before .before .if5 .left)
+    by-short (b .args .p) (run b) (one b) (two b) (good-of j) (even-o j) (even-a j) _ (so j)
+    (c .before .before .before .before .if4 .left) (c .before .before .before .if5 .left)
     (or-left (shorter (two b) (length (b .args .stamp .now))) (or-right (ltb (length (b .args .numbers .now)) (length (b .args .stamp .now))) (lt-ltb _ _ (c .before .if7 .taken)))) _ (c .refused7 .ensures)
 
 refused-requires-8 : tie.Need-refused-requires-8
@@ -138,7 +150,8 @@ returns-8 : tie.Need-returns-8
 returns-8 c =
     let j = c .before .before .before .before .before .before .before in
     let b = entry (answered j) in
-    by-short (b .args .p) (run b) (one b) (two b) (good-of j) (j .before .before .before .before .before .if2 .left) (j .before .before .before .before .if3 .left) _ (so j) (c .before .before .before .before .before .if4 .left) (c .before .before .before .before .if5 .left)
+    by-short (b .args .p) (run b) (one b) (two b) (good-of j) (even-o j) (even-a j) _ (so j)
+    (c .before .before .before .before .before .if4 .left) (c .before .before .before .before .if5 .left)
     (or-right (shorter (one b) (length (b .args .stamp .now))) (or-left (ltb (length (b .args .moments2 .now)) (length (b .args .stamp .now))) (lt-ltb _ _ (c .before .if8 .taken)))) _ (c .refused8 .ensures)
 
 refused-requires-9 : tie.Need-refused-requires-9
@@ -148,7 +161,8 @@ returns-9 : tie.Need-returns-9
 returns-9 c =
     let j = c .before .before .before .before .before .before .before .before in
     let b = entry (answered j) in
-    by-short (b .args .p) (run b) (one b) (two b) (good-of j) (j .before .before .before .before .before .if2 .left) (j .before .before .before .before .if3 .left) _ (so j) (c .before .before .before .before .before .before .if4 .left) (c .before .before .before .before .before .if5 .left)
+    by-short (b .args .p) (run b) (one b) (two b) (good-of j) (even-o j) (even-a j) _ (so j)
+    (c .before .before .before .before .before .before .if4 .left) (c .before .before .before .before .before .if5 .left)
     (or-right (shorter (one b) (length (b .args .stamp .now))) (or-right (ltb (length (b .args .numbers2 .now)) (length (b .args .stamp .now))) (lt-ltb _ _ (c .before .if9 .taken)))) _ (c .refused9 .ensures)
 
 -- where an order is to be written: the judgement, and that the lists are long enough
@@ -158,13 +172,28 @@ judgement w = w .before .before .before .before .before .before .before .before 
 abbrev fits-in : tie.After-write-arg2 → tie.Else9
 fits-in w = w .before .before .before .before
 
+none-refused : (w : tie.After-write-arg2) → judgement w .judge .result .refusal ≡ 0
+none-refused w = w .before .before .before .before .before .before .before .before .before .if4 .left
+
+few : (w : tie.After-write-arg2) → length (entry (answered (judgement w)) .args .stamp .now) ≤ most-lines
+few w = w .before .before .before .before .before .before .before .before .if5 .left
+
+sized : (w : tie.After-write-arg2) → Sized (run (entry (answered (judgement w))))
+sized w =
+    let j = judgement w in
+    let b = entry (answered j) in is-sized (b .args .p) (run b) (one b) (two b) (good-of j) (even-o j) (even-a j) _ (so j) (none-refused w)
+
+all-taken : (w : tie.After-write-arg2)
+    → Taken (entry (answered (judgement w)) .args .p) (good-of (judgement w)) (run (entry (answered (judgement w)))) (length (entry (answered (judgement w)) .args .stamp .now))
+all-taken w =
+    let j = judgement w in
+    let b = entry (answered j) in is-taken (b .args .p) (run b) (one b) (two b) (good-of j) (even-o j) (even-a j) _ (so j) (none-refused w)
+
 found : (w : tie.After-write-arg2) (breaking : Bool) → Found (entry (answered (judgement w)) .args .p) (run (entry (answered (judgement w)))) breaking
 found w breaking =
     let j = judgement w in
     let b = entry (answered j) in
-    places-found (b .args .p) (good-of j) (run b)
-    (is-sized (b .args .p) (run b) (one b) (two b) (good-of j) (j .before .before .before .before .before .if2 .left) (j .before .before .before .before .if3 .left) _ (so j) (w .before .before .before .before .before .before .before .before .before .if4 .left))
-    (is-taken (b .args .p) (run b) (one b) (two b) (good-of j) (j .before .before .before .before .before .if2 .left) (j .before .before .before .before .if3 .left) _ (so j) (w .before .before .before .before .before .before .before .before .before .if4 .left)) breaking
+    places-found (b .args .p) (good-of j) (run b) (sized w) (all-taken w) breaking
 
 write-requires : tie.Need-write-requires
 write-requires c κs =
@@ -196,12 +225,10 @@ returns-10 c =
     let f = fits-in w in
     let j = judgement w in
     let b = entry (answered j) in
-    by-told (b .args .p) (run b) (one b) (two b) (good-of j) (j .before .before .before .before .before .if2 .left) (j .before .before .before .before .if3 .left) _ (so j) (w .before .before .before .before .before .before .before .before .before .if4 .left) (w .before .before .before .before .before .before .before .before .if5 .left) _ _
+    by-told (b .args .p) (run b) (one b) (two b) (good-of j) (even-o j) (even-a j) _ (so j) (none-refused w) (few w) _ _
     (f .before .before .before .if6 .left) (f .before .before .if7 .left) (f .before .if8 .left) (f .if9 .left)
-    (answer-suspect (b .args .p) (good-of j) (run b)
-    (is-sized (b .args .p) (run b) (one b) (two b) (good-of j) (j .before .before .before .before .before .if2 .left) (j .before .before .before .before .if3 .left) _ (so j) (w .before .before .before .before .before .before .before .before .before .if4 .left))
-    (is-taken (b .args .p) (run b) (one b) (two b) (good-of j) (j .before .before .before .before .before .if2 .left) (j .before .before .before .before .if3 .left) _ (so j) (w .before .before .before .before .before .before .before .before .before .if4 .left))
-    _ (so j) (one b) (two b) _ _ (f .before .before .before .if6 .left) (f .before .before .if7 .left) (c .before .before .before .before .before .before .before .if10 .taken) (u .write .ensures) (f .before .if8 .left) (f .if9 .left) (c .before .before .before .write2 .ensures))
+    (answer-suspect (b .args .p) (good-of j) (run b) (sized w) (all-taken w) _ (so j) (one b) (two b) _ _ (f .before .before .before .if6 .left) (f .before .before .if7 .left) (c .before .before .before .before .before .before .before .if10 .taken)
+    (u .write .ensures) (f .before .if8 .left) (f .if9 .left) (c .before .before .before .write2 .ensures))
 
 same-length-5 : tie.Need-same-length-5
 same-length-5 c = search needs
@@ -216,12 +243,10 @@ returns-11 c =
     let f = fits-in w in
     let j = judgement w in
     let b = entry (answered j) in
-    by-told (b .args .p) (run b) (one b) (two b) (good-of j) (j .before .before .before .before .before .if2 .left) (j .before .before .before .before .if3 .left) _ (so j) (w .before .before .before .before .before .before .before .before .before .if4 .left) (w .before .before .before .before .before .before .before .before .if5 .left) _ _
+    by-told (b .args .p) (run b) (one b) (two b) (good-of j) (even-o j) (even-a j) _ (so j) (none-refused w) (few w) _ _
     (f .before .before .before .if6 .left) (f .before .before .if7 .left) (f .before .if8 .left) (f .if9 .left)
-    (answer-other (b .args .p) (good-of j) (run b)
-    (is-sized (b .args .p) (run b) (one b) (two b) (good-of j) (j .before .before .before .before .before .if2 .left) (j .before .before .before .before .if3 .left) _ (so j) (w .before .before .before .before .before .before .before .before .before .if4 .left))
-    (is-taken (b .args .p) (run b) (one b) (two b) (good-of j) (j .before .before .before .before .before .if2 .left) (j .before .before .before .before .if3 .left) _ (so j) (w .before .before .before .before .before .before .before .before .before .if4 .left))
-    _ (so j) (one b) (two b) _ _ (f .before .before .before .if6 .left) (f .before .before .if7 .left) (c .if10 .left) (u .write .ensures) refl)
+    (answer-other (b .args .p) (good-of j) (run b) (sized w) (all-taken w) _ (so j) (one b) (two b) _ _ (f .before .before .before .if6 .left) (f .before .before .if7 .left) (c .if10 .left)
+    (u .write .ensures) refl)
 
 pub explain-spec : {M : Type 1} → statement M
 explain-spec =

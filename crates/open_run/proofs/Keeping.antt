@@ -11,8 +11,8 @@ use Rattle.laws.specs.Places.{first}
 use Rattle.laws.proofs.Places.{first-snoc, first-same}
 use Rattle.meaning.specs.Words.{Line, Run}
 use Rattle.cuts.specs.Steps.{line-of}
-use Rattle.why.specs.Why.{most-lines}
-use Rattle.show_why.specs.Kept.{Lines, in-lines, line-at, Keeps}
+use Rattle.reasons.specs.Reasons.{most-lines}
+use Rattle.open_run.specs.Kept.{Lines, in-lines, line-at, Keeps}
 
 -- The same places with another number of lines.
 abbrev pub with-count : Lines → ℕ → Lines

@@ -1,8 +1,8 @@
--- `show_why::take` meets its contract: what was read, kind by kind.
-use Rattle.show_why.proofs.Standing.{case-known, record-ended, record-refused}
+-- `open_run::take` meets its contract: what was read, kind by kind.
+use Rattle.open_run.proofs.Standing.{case-known, record-ended, record-refused}
 use borrow.Author.Needs.{needs}
-use Rattle.show_why.proofs.take.Statement.{statement}
-use Rattle.show_why.proofs.take.Tie as tie
+use Rattle.open_run.proofs.take.Statement.{statement}
+use Rattle.open_run.proofs.take.Tie as tie
 
 enum-known-read : tie.Need-enum-known-read
 enum-known-read c = search needs

@@ -16,7 +16,7 @@ use Rattle.session_record.specs.declared.Session.{Session}
 use Rattle.session_record.specs.Record.{latest-of}
 use Rattle.session_record.specs.Step.{fresh-of, stepped-through}
 use Rattle.session_record.specs.Lent.{Ready}
-use Rattle.why.specs.Why.{most-lines}
+use Rattle.reasons.specs.Reasons.{most-lines}
 use Rattle.walk.specs.declared.Did.{Did}
 use Rattle.walk.specs.declared.Did.the-variants.{Took, Ended, Not}
 use Rattle.walk.specs.Walk.{One, one-read}

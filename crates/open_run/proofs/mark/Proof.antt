@@ -1,8 +1,8 @@
--- `show_why::mark` meets its contract: refused, or the run is closed.
-use Rattle.show_why.proofs.Standing.{call-refused, mark-taken}
+-- `open_run::mark` meets its contract: refused, or the run is closed.
+use Rattle.open_run.proofs.Standing.{call-refused, mark-taken}
 use borrow.Author.Needs.{needs}
-use Rattle.show_why.proofs.mark.Statement.{statement}
-use Rattle.show_why.proofs.mark.Tie as tie
+use Rattle.open_run.proofs.mark.Statement.{statement}
+use Rattle.open_run.proofs.mark.Tie as tie
 
 mark-requires : tie.Need-mark-requires
 mark-requires c κs = search needs

@@ -1,9 +1,9 @@
--- `show_why::line` meets its contract: refused, skipped, or the next line of the run.
+-- `open_run::line` meets its contract: refused, skipped, or the next line of the run.
 use mathlib.Core.Path.{refl}
-use Rattle.show_why.proofs.Standing.{call-refused, call-closed, line-taken}
+use Rattle.open_run.proofs.Standing.{call-refused, call-closed, line-taken}
 use borrow.Author.Needs.{needs}
-use Rattle.show_why.proofs.line.Statement.{statement}
-use Rattle.show_why.proofs.line.Tie as tie
+use Rattle.open_run.proofs.line.Statement.{statement}
+use Rattle.open_run.proofs.line.Tie as tie
 
 line-requires : tie.Need-line-requires
 line-requires c κs = search needs

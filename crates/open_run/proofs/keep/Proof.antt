@@ -1,8 +1,8 @@
--- `show_why::keep` meets its contract: a line is put behind the others, or counted where there is no place left.
-use Rattle.show_why.proofs.Keeping.{keeps-past, keeps-more}
+-- `open_run::keep` meets its contract: a line is put behind the others, or counted where there is no place left.
+use Rattle.open_run.proofs.Keeping.{keeps-past, keeps-more}
 use borrow.Author.Needs.{needs}
-use Rattle.show_why.proofs.keep.Statement.{statement}
-use Rattle.show_why.proofs.keep.Tie as tie
+use Rattle.open_run.proofs.keep.Statement.{statement}
+use Rattle.open_run.proofs.keep.Tie as tie
 
 returns : tie.Need-returns
 returns c = λ run h. keeps-past run _ _ (c .if1 .taken) h
