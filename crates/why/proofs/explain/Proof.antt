@@ -227,7 +227,8 @@ returns-10 c =
     let b = entry (answered j) in
     by-told (b .args .p) (run b) (one b) (two b) (good-of j) (even-o j) (even-a j) _ (so j) (none-refused w) (few w) _ _
     (f .before .before .before .if6 .left) (f .before .before .if7 .left) (f .before .if8 .left) (f .if9 .left)
-    (answer-suspect (b .args .p) (good-of j) (run b) (sized w) (all-taken w) _ (so j) (one b) (two b) _ _ (f .before .before .before .if6 .left) (f .before .before .if7 .left) (c .before .before .before .before .before .before .before .if10 .taken)
+    (answer-suspect (b .args .p) (good-of j) (run b) (sized w) (all-taken w) _ (so j) (one b) (two b) _ _ (f .before .before .before .if6 .left) (f .before .before .if7 .left)
+    (c .before .before .before .before .before .before .before .if10 .taken)
     (u .write .ensures) (f .before .if8 .left) (f .if9 .left) (c .before .before .before .write2 .ensures))
 
 same-length-5 : tie.Need-same-length-5
