@@ -36,7 +36,7 @@ use Rattle.first_order.specs.Search.{Pair}
 use Rattle.why.specs.Why.{Shows, ShowsBy, Told, over}
 use Rattle.judged_rest.specs.Judged.{waits, judged, Judged}
 use Rattle.first_order.specs.Search.{kind-in, reaches, Sized, start, choice, placed, place, number-at, Found, moment-at, Written}
-use Rattle.why.proofs.Left.{left, both-kinds}
+use Rattle.why.proofs.Left.{left, both-kinds, either-way}
 use Rattle.why.proofs.Whole.{AllTaken, all-taken}
 use Rattle.why.proofs.Judgement.{says, Taken}
 use Rattle.why.proofs.Channel.{channel, ins-left, outs-left, Only}
@@ -49,11 +49,7 @@ all-wait : (ls : Lines) (n : ℕ) → left (λ (i : ℕ). waits start i (is-outp
 unfolding left first
 all-wait ls zero = refl
 all-wait ls (suc n) =
-    ap₂ (λ (l : List Line) (b : Bool). l ++ cond b (line-in ls n ∷ []) []) (all-wait ls n) (always (is-output ls n) (le-leb 0 n (omega arith))) ∙ sym (first-snoc (line-in ls) n)
-  where
-    always : (o : Bool) {t : Bool} → t ≡ true → cond o t t ≡ true
-    always true q = q
-    always false q = q
+    ap₂ (λ (l : List Line) (b : Bool). l ++ cond b (line-in ls n ∷ []) []) (all-wait ls n) (either-way (is-output ls n) (le-leb 0 n (omega arith))) ∙ sym (first-snoc (line-in ls) n)
 
 module _ (p : Property) (good : property-refusal (meant p) ≡ 0) (ls : Lines) (sized : Sized ls) (t : Taken p good ls (count ls)) where
   abbrev M : Matcher

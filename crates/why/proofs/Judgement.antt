@@ -35,6 +35,7 @@ use Rattle.judged_rest.specs.Lent.{Lines, is-output, line-in}
 use Rattle.judged_rest.specs.Judged.{Judged, waits, refused-by, told-then, judged-line, turned, begun, judged}
 use Rattle.first_order.specs.Search.{start}
 use Rattle.judged_rest.specs.Judged
+use Rattle.why.proofs.Left.{either-way}
 use Rattle.why.proofs.Whole.{taken-lines, lines-snoc, taken-snoc}
 
 -- a session over cuts whose run is open
@@ -151,11 +152,7 @@ module _ (p : Property) where
     goes-on k j e z =
         ap (turned p start (is-output ls k) (line-in ls k) k) e
         ∙ unless-taken (j .told .refusal) (cond (waits start k (is-output ls k)) (judged-line p (line-in ls k) k j) j) j z
-        ∙ ap (λ (b : Bool). cond b (judged-line p (line-in ls k) k j) j) (always (is-output ls k) (leb 0 k) (le-leb 0 k (omega arith)))
-      where
-        always : (o t : Bool) → t ≡ true → cond o t t ≡ true
-        always true t q = q
-        always false t q = q
+        ∙ ap (λ (b : Bool). cond b (judged-line p (line-in ls k) k j) j) (either-way (is-output ls k) (le-leb 0 k (omega arith)))
 
     stays-stopped : (k n : ℕ) → judged p ls start k .told ≡ refused-by (suc n) → judged p ls start (suc k) .told ≡ refused-by (suc n)
     unfolding judged turned

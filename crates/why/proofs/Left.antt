@@ -1,7 +1,7 @@
 -- Those of the first n places of which a test holds, in their order: which is first, and what is left behind it.
 use Prim.Native.Nat.{ℕ, zero, suc, _+_, _-_, _≤_, _<_}
 use mathlib.Core.Path.{_≡_, refl, sym, ap, ap₂, _∙_, subst}
-use mathlib.Core.Bool.{Bool, true, false, cond, not, true≢false, _&&_}
+use mathlib.Core.Bool.{Bool, true, false, cond, not, true≢false, _&&_, and-true, and-false}
 use mathlib.Core.List.{List, [], _∷_, _++_, append-nil}
 use native.Mathlib.Omega.{arith}
 use lib.ListN.{length, length-append}
@@ -45,20 +45,12 @@ module _ {A : Type 0} (g : ℕ → A) where
           ∙ ap (λ (i : ℕ). g i ∷ []) (sym e)
           ∙ sym
           (ap₂ (λ (l : List A) (b : Bool). g x ∷ (l ++ cond b (g m ∷ []) []))
-          (left-none (λ i. f i && ltb x i) m (λ i l. under (f i) (le-ltb x i (omega arith))))
-          (under (f m) (le-ltb x m (omega arith))))
-        where
-          under : (b : Bool) {c : Bool} → c ≡ false → b && c ≡ false
-          under true q = q
-          under false q = refl
+          (left-none (λ i. f i && ltb x i) m (λ i l. ap (λ (t : Bool). f i && t) (le-ltb x i (omega arith)) ∙ and-false (f i)))
+          (ap (λ (t : Bool). f m && t) (le-ltb x m (omega arith)) ∙ and-false (f m)))
       go false y n ih =
           let d : x ≡ m → ⊥ = n refl in
           let l : x < m = omega arith in
-          ap₂ (λ (u : List A) (b : Bool). u ++ cond b (g m ∷ []) []) (ih l) (sym (over (f m) (lt-ltb x m l)))
-        where
-          over : (b : Bool) {c : Bool} → c ≡ true → b && c ≡ b
-          over true q = q
-          over false q = refl
+          ap₂ (λ (u : List A) (b : Bool). u ++ cond b (g m ∷ []) []) (ih l) (sym (ap (λ (t : Bool). f m && t) (lt-ltb x m l) ∙ and-true (f m)))
 
 -- a kind, from a place on
 abbrev pub on : (ℕ → Bool) → ℕ → ℕ → Bool
@@ -73,11 +65,7 @@ on-behind f a x i h = go (f i) (ltb x i) refl
     go true true e =
         let l : x < i = ltb-true x i e in
         ap (λ (t : Bool). t && true) (le-leb a i (omega arith)) ∙ sym (le-leb (suc x) i (omega arith))
-    go true false e = let l : i ≤ x = ltb-false x i e in last (leb a i) ∙ sym (lt-leb (suc x) i (omega arith))
-      where
-        last : (t : Bool) → t && false ≡ false
-        last true = refl
-        last false = refl
+    go true false e = let l : i ≤ x = ltb-false x i e in and-false (leb a i) ∙ sym (lt-leb (suc x) i (omega arith))
 
 module _ {A : Type 0} (g : ℕ → A) (f : ℕ → Bool) (a n x : ℕ) (from : a ≤ x) (none : (i : ℕ) → a ≤ i → i < x → f i ≡ false) where
   before : (i : ℕ) → i < x → on f a i ≡ false
@@ -85,11 +73,7 @@ module _ {A : Type 0} (g : ℕ → A) (f : ℕ → Bool) (a n x : ℕ) (from : a
     where
       go : (t : Bool) → leb a i ≡ t → f i && t ≡ false
       go true e = ap (λ (b : Bool). b && true) (none i (leb-true a i e) h)
-      go false e = last (f i)
-        where
-          last : (t : Bool) → t && false ≡ false
-          last true = refl
-          last false = refl
+      go false e = and-false (f i)
 
   -- nothing is left,
   pub on-none : n ≤ x → left (on f a) g n ≡ []
@@ -120,3 +104,8 @@ both-kinds g f (suc n) = go (f n) (leb 0 n) (le-leb 0 n (omega arith)) (both-kin
 pub no-length : {A : Type 0} (l : List A) → length l ≡ 0 → l ≡ []
 no-length [] e = refl
 no-length (x ∷ l) e = let z : ⊥ = omega arith in absurd z
+
+-- one test by two ways
+pub either-way : (o : Bool) {t : Bool} → t ≡ true → cond o t t ≡ true
+either-way true q = q
+either-way false q = q

@@ -33,7 +33,7 @@ use Rattle.why.proofs.Left.{no-length, on-none, on-next}
 use Rattle.why.proofs.Whole.{AllTaken}
 use Rattle.why.proofs.Channel.{channel, Only, only-next}
 use Rattle.why.proofs.Placing.{Can, asked}
-use Rattle.why.proofs.Showing.{numbered-in, numbered-out, numbered-none}
+use Rattle.why.proofs.Showing.{kind-of, numbered-in, numbered-out, numbered-none}
 
 -- the rest of an order, from what its first line has reached
 module _ (p : Property) (ls : Lines) (breaking : Bool) where
@@ -95,11 +95,7 @@ module _ (p : Property) (good : property-refusal (meant p) ≡ 0) (ls : Lines) (
       subst (λ (r : Reached). choice p ls breaking r < count ls) (sym (placed-shift p ls breaking from j ∙ ap (λ (r : Reached). placed p ls breaking r j) e)) (k j (omega arith))
 
   gets : (k : ℕ) (o : Bool) → is-output ls k ≡ o → gets-in (line-in ls k) ≡ not o
-  gets k o e = kinds (is-output ls k) (getD (ls .action) k 0) ∙ ap not e
-    where
-      kinds : (b : Bool) (act : ℕ) → is-input (action-of b act) ≡ not b
-      kinds true act = refl
-      kinds false act = refl
+  gets k o e = kind-of (is-output ls k) (getD (ls .action) k 0) ∙ ap not e
 
   -- the next line is an input
   module _ (from : Reached) (q : State) (m x : ℕ) (nx : IsNext (kind-in (ls .output) false) (from .input) (count ls) x) (h : x < count ls) (is-x : x ≡ chosen from) where

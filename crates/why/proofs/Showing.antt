@@ -2,7 +2,7 @@
 use Prim.Native.Nat.{ℕ, zero, suc, _+_, _-_, _≤_, _<_, max}
 use mathlib.Core.Path.{_≡_, refl, sym, ap, ap₂, _∙_, subst}
 use mathlib.Core.Logic.{_↔_, _⊎_}
-use mathlib.Core.Bool.{Bool, true, false, cond, not, _&&_}
+use mathlib.Core.Bool.{Bool, true, false, cond, not, _&&_, and-true, Bool·not-not}
 use mathlib.Core.List.{List, [], _∷_, _++_}
 use native.Mathlib.Omega.{arith}
 use lib.ListN.{length, getD, drop, length-append, length-drop, List·getD-append}
@@ -77,14 +77,10 @@ module _ (ls : Lines) (wanted : Bool) (f : Line → Bool) (kind : (k : ℕ) → 
       ap (numbers-of f 1) (first-snoc (line-in ls) n)
       ∙ numbers-snoc f 1 (first (line-in ls) n) (line-in ls n)
       ∙ ap₂ _++_ (channel-numbers n)
-      (ap₂ (λ (b : Bool) (k : ℕ). cond b (k ∷ []) []) (kind n ∙ sym (both (kind-in (ls .output) wanted n) (le-leb 0 n (omega arith))))
+      (ap₂ (λ (b : Bool) (k : ℕ). cond b (k ∷ []) []) (kind n ∙ sym (ap (λ (t : Bool). kind-in (ls .output) wanted n && t) (le-leb 0 n (omega arith)) ∙ and-true (kind-in (ls .output) wanted n)))
       (let e : 1 + length (first (line-in ls) n) ≡ suc n = omega (arith, length-first (line-in ls) n) in e))
-    where
-      both : (b : Bool) {c : Bool} → c ≡ true → b && c ≡ b
-      both true q = q
-      both false q = refl
 
-kind-of : (b : Bool) (act : ℕ) → is-input (action-of b act) ≡ not b
+pub kind-of : (b : Bool) (act : ℕ) → is-input (action-of b act) ≡ not b
 kind-of true act = refl
 kind-of false act = refl
 
@@ -92,11 +88,7 @@ pub in-numbers : (ls : Lines) (n : ℕ) → numbers-of gets-in 1 (first (line-in
 in-numbers ls n = channel-numbers ls false gets-in (λ k. kind-of (is-output ls k) (getD (ls .action) k 0)) n
 
 pub out-numbers : (ls : Lines) (n : ℕ) → numbers-of goes-out 1 (first (line-in ls) n) ≡ channel ls true suc 0 n
-out-numbers ls n = channel-numbers ls true goes-out (λ k. ap not (kind-of (is-output ls k) (getD (ls .action) k 0)) ∙ twice (is-output ls k)) n
-  where
-    twice : (b : Bool) → not (not b) ≡ b
-    twice true = refl
-    twice false = refl
+out-numbers ls n = channel-numbers ls true goes-out (λ k. ap not (kind-of (is-output ls k) (getD (ls .action) k 0)) ∙ Bool·not-not (is-output ls k)) n
 
 -- an input's number comes from the inputs', an output's from the outputs'
 pub numbered-in : (k : ℕ) (ins outs : List ℕ) (l : Line) (rest : List Line) → gets-in l ≡ true → numbered (k ∷ ins) outs (l ∷ rest) ≡ k ∷ numbered ins outs rest
