@@ -9,7 +9,7 @@ use lib.Dec.{ltb}
 use Rattle.meaning.specs.Limits.{last-action, most-open}
 use Rattle.meaning.specs.Numbers.{given, first-of}
 use Rattle.meaning.specs.Node.{Verdict, verdict-number}
-use Rattle.meaning.specs.Calls.{Call, stamp-refusal}
+use Rattle.meaning.specs.Calls.{Call, mark-at, stamp-refusal}
 use Rattle.meaning.specs.Calls
 use Rattle.meaning.specs.Matcher.{Lengths, at-start}
 use Rattle.meaning.specs.Step.{Front, Cuts}
@@ -124,9 +124,9 @@ module _ (s : Session) (ready : Ready s) where
           (subst (λ (x : Front Lengths). LineTaken p (front-after p x (line-of out act t)) t held acts masks marks r) (sym (front-if false e)) y)
 
   -- "It closes the run, its answer gives the closed run's verdict (3 if already blind), and the session is blind."
-  module _ (g n : ℕ) (number : n ≡ stamp-refusal (latest-of s) g) (none : n ≡ 0) where
+  module _ (lost g n : ℕ) (number : n ≡ first-of (given 3 (ltb last-action lost)) (stamp-refusal (latest-of s) g)) (none : n ≡ 0) where
     abbrev m : Call
-    m = Call.mark (record { stamp = g })
+    m = mark-at lost g
 
     mark-leads : (v : ℕ) → v ≡ verdict-number (verdict-by p c) → (held acts masks marks : List ℕ) → Stored (front-none p) held acts 0 (row masks marks) → (r : Told)
         → r ≡ record { answer = record { refusal = 0; verdict = v; open_count = 0 }; status = record { count = 0; latest = g; blind = true } }

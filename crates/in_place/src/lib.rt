@@ -7,7 +7,7 @@ ghost use lib.Dec.{ltb};
 ghost use Rattle.meaning.specs.Limits.{last-action, last-stamp, most-open};
 ghost use Rattle.meaning.specs.Matcher.{at-start};
 ghost use Rattle.meaning.specs.Numbers.{given, first-of};
-ghost use Rattle.meaning.specs.Calls.{Call, stamp-refusal};
+ghost use Rattle.meaning.specs.Calls.{Call, mark-at, stamp-refusal};
 ghost use Rattle.meaning.specs.Calls;
 ghost use Rattle.table.specs.Table.{IsTable};
 ghost use Rattle.matcher.specs.Sets.{cut-of};
@@ -74,11 +74,11 @@ fn stamp_refused(latest: u64, t: u64) -> u64
     0
 }
 
-// Refusal 3, 4 or 5 of a line.
-fn line_refused(act: u8, latest: u64, t: u64) -> u64
-    ensures { λ r. ⌜ r ≡ first-of (given 3 (ltb last-action act)) (stamp-refusal latest t) ⌝ }
+// Refusal 3, 4 or 5 of a line with its action, or of a gap mark with its number of lost lines.
+fn refused(number: u8, latest: u64, t: u64) -> u64
+    ensures { λ r. ⌜ r ≡ first-of (given 3 (ltb last-action number)) (stamp-refusal latest t) ⌝ }
 {
-    if LAST_ACTION < act {
+    if LAST_ACTION < number {
         return 3;
     }
     stamp_refused(latest, t)
@@ -189,7 +189,7 @@ pub fn line(
         (Call.line (line-of out act t)) (r .answer)
         (in-arrays p (now (held .exit)) (now (acts .exit)) (now (masks .exit)) (now (marks .exit)) (r .status)) ⌝ }
 {
-    let number = line_refused(act, status.latest, t);
+    let number = refused(act, status.latest, t);
     if number != 0 {
         return unmoved(number, status);
     }
@@ -220,7 +220,7 @@ pub fn line(
     )
 }
 
-// A gap mark.
+// A gap mark, with the number of lost lines.
 pub fn mark(
     p: Property,
     held: &mut [u64; 64],
@@ -228,14 +228,15 @@ pub fn mark(
     masks: &mut [u64; 65],
     marks: &mut [u64; 65],
     status: Status,
+    lost: u8,
     g: u64,
 ) -> Told
     requires { ⌜ Ready (in-arrays p (now held) (now acts) (now masks) (now marks) status) ⌝ }
     ensures { λ r. ⌜ Advanced (in-arrays p (now (held .entry)) (now (acts .entry)) (now (masks .entry)) (now (marks .entry)) status)
-        (Call.mark (record { stamp = g })) (r .answer)
+        (mark-at lost g) (r .answer)
         (in-arrays p (now (held .exit)) (now (acts .exit)) (now (masks .exit)) (now (marks .exit)) (r .status)) ⌝ }
 {
-    let number = stamp_refused(status.latest, g);
+    let number = refused(lost, status.latest, g);
     if number != 0 {
         return unmoved(number, status);
     }

@@ -6,10 +6,11 @@ use session_record::Answer;
 use session_record::Session;
 use session_record::Stepped;
 
-// One event of a trace: a line (an output or an input, the number of its action, its stamp) or a gap mark at a stamp.
+// One event of a trace: a line (an output or an input, the number of its action, its stamp) or a gap mark (the number of lost lines,
+// its stamp).
 pub enum Event {
     Line(bool, u8, u64),
-    Mark(u64),
+    Mark(u8, u64),
 }
 
 // The proved step by value, of either kind: its one contract is all that the walk of `step` has to know.
@@ -18,7 +19,7 @@ fn next(s: Session, event: Event) -> Stepped
 {
     match event {
         Event::Line(output, action, stamp) => session::line(s, output, action, stamp),
-        Event::Mark(stamp) => session::mark(s, stamp),
+        Event::Mark(lost, stamp) => session::mark(s, lost, stamp),
     }
 }
 

@@ -6,6 +6,9 @@ pub const MOST_ACTIONS: usize = 32;
 // "with k from 0 to 63"
 pub const LAST_ACTION: u8 = 63;
 
+// Document 02, CR 7: "0 to 62 as it is, 63 for more or unknown"
+pub const MOST_LOST: u8 = 63;
+
 // "1 ≤ LB ≤ UB ≤ 60,000,000"
 pub const LAST_BOUND: u64 = 60000000;
 

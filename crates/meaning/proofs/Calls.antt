@@ -7,11 +7,11 @@ use native.Mathlib.Omega.{arith}
 use lib.ListN.{length}
 use lib.Dec.{ltb}
 use borrow.Author.Tests.{ltb-false}
-use Rattle.meaning.specs.Limits.{most-open, last-stamp}
+use Rattle.meaning.specs.Limits.{most-open, most-lost, last-stamp}
 use Rattle.meaning.specs.Words.{Property, Line, Run}
 use Rattle.meaning.specs.Node.{Breaks, Verdict, verdict-number}
 use Rattle.meaning.specs.Numbers.{given, action-above}
-use Rattle.meaning.specs.Calls.{open-at, Call, Watch, fresh, beyond, with-line, stamp-refusal, refusal, taken, unless-refused, next, watched}
+use Rattle.meaning.specs.Calls.{open-at, Mark, Call, Watch, fresh, beyond, with-line, stamp-refusal, mark-refusal, refusal, taken, unless-refused, next, watched}
 use Rattle.meaning.specs.Calls.{Standing, open-of, Answer, refused, Told, TakenAnswer, AnswerBy, IsAnswer}
 use Rattle.meaning.specs.Step.{Sets, Front, Cuts, front-with, fresh-front, no-front, fresh-cuts, cuts-verdict, cuts-open, cuts-with-line}
 use Rattle.meaning.specs.Step.{cuts-refusal, cuts-taken, cuts-next, cuts-told, cuts-answer, cuts-after}
@@ -23,6 +23,10 @@ use Rattle.meaning.proofs.Exact.{Fits, fresh-fits, front-fits, held-is-
 
 pub not-refused-stamp : (latest t : ℕ) → stamp-refusal latest t ≡ 0 → latest ≤ t
 not-refused-stamp latest t e = ltb-false t latest (given-none 4 (ltb t latest) (none-first 3 (ltb last-stamp t) e .1))
+
+-- a mark that is taken is taken for its stamp
+pub not-refused-mark : (latest : ℕ) (g : Mark) → mark-refusal latest g ≡ 0 → stamp-refusal latest (g .stamp) ≡ 0
+not-refused-mark latest g e = none-first 2 (ltb most-lost (g .lost)) e .1
 
 module _ {p : Property} {Breaking : List Line → Type 0} (R : Reading p Breaking) where
   abbrev 𝓢 : Sets

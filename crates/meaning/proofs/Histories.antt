@@ -16,7 +16,7 @@ use Rattle.meaning.proofs.Lists.{All, done, also, all-map, all-ins, all
 use Rattle.meaning.proofs.Pairs.{Bounds}
 use Rattle.meaning.proofs.Channels.{from-right}
 use Rattle.meaning.proofs.Refusals.{first-of-none}
-use Rattle.meaning.proofs.Calls.{not-refused-stamp}
+use Rattle.meaning.proofs.Calls.{not-refused-stamp, not-refused-mark}
 use Rattle.meaning.proofs.Boundary.{whole-verdict}
 
 abbrev blind-watch : ℕ → Watch
@@ -39,7 +39,7 @@ module _ (p : Property) where
   not-refused-late w (Call.line l) e =
       not-refused-stamp (w .latest) (l .stamp)
       (first-of-none (stamp-refusal (w .latest) (l .stamp)) (first-of-none (given 3 (action-above (l .action))) e .1) .0)
-  not-refused-late w (Call.mark g) e = not-refused-stamp (w .latest) (g .stamp) e
+  not-refused-late w (Call.mark g) e = not-refused-stamp (w .latest) (g .stamp) (not-refused-mark (w .latest) g e)
 
   pub watched-append : (w : Watch) (a c : List Call) → watched p w (a ++ c) ≡ watched p (watched p w a) c
   unfolding watched

@@ -4,7 +4,7 @@ use mathlib.Core.Path.{_≡_}
 use mathlib.Core.Bool.{Bool, true, false, cond, not, _&&_}
 use mathlib.Core.List.{List, [], _∷_, _++_}
 use lib.Dec.{leb, ltb}
-use Rattle.meaning.specs.Limits.{last-stamp, most-open}
+use Rattle.meaning.specs.Limits.{most-lost, last-stamp, most-open}
 use Rattle.meaning.specs.Words.{Property, Line, Run}
 use Rattle.meaning.specs.Node.{ins, Verdict, IsVerdict, verdict-number}
 use Rattle.meaning.specs.Numbers.{given, first-of, action-above}
@@ -21,8 +21,10 @@ count-open p T (x ∷ rest) = cond (is-open p T x) (suc (count-open p T rest)) (
 abbrev pub open-at : Property → ℕ → Run → ℕ
 open-at p T run = count-open p T (ins run)
 
--- Document 01, "Gaps": "A gap mark has a stamp g, not below the latest stamp."
+-- Document 01, "Gaps": "A gap mark has a stamp g, not below the latest stamp." Document 02, CR 7: "The call that marks a gap takes
+-- the number too", of the lines that were lost.
 pub record Mark : Type 0 where
+  pub lost : ℕ
   pub stamp : ℕ
 
 -- The two calls on a session.
@@ -30,8 +32,8 @@ pub data Call : Type 0 where
   line : Line → Call
   mark : Mark → Call
 
-abbrev pub mark-at : ℕ → Call
-mark-at t = Call.mark (record { stamp = t })
+abbrev pub mark-at : ℕ → ℕ → Call
+mark-at lost t = Call.mark (record { lost = lost; stamp = t })
 
 -- What the calls so far have come to: is the session blind, the run that is open (none while blind), the latest stamp.
 pub record Watch : Type 0 where
@@ -72,9 +74,9 @@ line-refusal p w l =
     (first-of (stamp-refusal (w .latest) (l .stamp))
     (given 6 (not (w .is-blind) && ltb most-open (open-at p (l .stamp) (w .run ++ l ∷ [])))))
 
--- The refusals of a gap mark, where the latest stamp is given.
+-- Refusals 3, 4 and 5 of a gap mark, where the latest stamp is given: "one above 63 is refusal 3 there".
 abbrev pub mark-refusal : ℕ → Mark → ℕ
-mark-refusal latest g = stamp-refusal latest (g .stamp)
+mark-refusal latest g = first-of (given 3 (ltb most-lost (g .lost))) (stamp-refusal latest (g .stamp))
 
 abbrev pub refusal : Property → Watch → Call → ℕ
 refusal p w (Call.line l) = line-refusal p w l

@@ -12,7 +12,7 @@ use Rattle.meaning.specs.Calls.{Call, mark-at, fresh, watched, AllTaken,
 abbrev pub B : Property
 B = record { sequence = Action.input 0 ∷ []; allowed = λ k. eqb k 1; LB = 10; UB = 30 }
 
--- ?k@t, !k@t and a gap mark.
+-- ?k@t, !k@t and a gap mark, whose number of lost lines document 01 does not give: it is 0 here, and no verdict depends on it.
 abbrev pub inp : ℕ → ℕ → Call
 inp k t = Call.line (record { action = Action.input k; stamp = t })
 
@@ -20,7 +20,7 @@ abbrev pub out : ℕ → ℕ → Call
 out k t = Call.line (record { action = Action.output k; stamp = t })
 
 abbrev pub gap : ℕ → Call
-gap t = mark-at t
+gap t = mark-at 0 t
 
 -- A case's number, calls, and the verdict that stands after them. Where a case gives a verdict after each line it has an entry for each.
 pub record Case : Type 0 where

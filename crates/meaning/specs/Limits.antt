@@ -13,6 +13,10 @@ last-action = 63
 abbrev pub last-bound : ℕ
 last-bound = 60_000_000
 
+-- Document 02, CR 7: "0 to 62 as it is, 63 for more or unknown"
+abbrev pub most-lost : ℕ
+most-lost = 63
+
 -- "a stamp, 0 to 1,099,511,627,775 (2^40 − 1)"
 abbrev pub last-stamp : ℕ
 last-stamp = 1_099_511_627_775

@@ -2,7 +2,7 @@
 use Prim.Native.Nat.{ℕ}
 use mathlib.Core.Path.{_≡_, sym, _∙_}
 use mathlib.Core.Bool.{Bool}
-use Rattle.meaning.specs.Calls.{Call}
+use Rattle.meaning.specs.Calls.{Call, mark-at}
 use Rattle.property.specs.declared.Property.{Property}
 use Rattle.cuts.specs.Steps.{line-of}
 use Rattle.session_record.specs.declared.Session.{Session}
@@ -16,6 +16,6 @@ pub line-determined : (s : Session) (output : Bool) (action stamp : ℕ) (r r′
     → r ≡ stepped-of s (Call.line (line-of output action stamp)) → r′ ≡ stepped-of s (Call.line (line-of output action stamp)) → r ≡ r′
 line-determined s output action stamp r r′ e e′ = e ∙ sym e′
 
-pub mark-determined : (s : Session) (stamp : ℕ) (r r′ : Stepped)
-    → r ≡ stepped-of s (Call.mark (record { stamp = stamp })) → r′ ≡ stepped-of s (Call.mark (record { stamp = stamp })) → r ≡ r′
-mark-determined s stamp r r′ e e′ = e ∙ sym e′
+pub mark-determined : (s : Session) (lost stamp : ℕ) (r r′ : Stepped)
+    → r ≡ stepped-of s (mark-at lost stamp) → r′ ≡ stepped-of s (mark-at lost stamp) → r ≡ r′
+mark-determined s lost stamp r r′ e e′ = e ∙ sym e′

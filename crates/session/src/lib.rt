@@ -1,6 +1,6 @@
 // The calls on a session, by value: fresh, line, gap mark.
 ghost use mathlib.Core.Path.{_≡_};
-ghost use Rattle.meaning.specs.Calls.{Call};
+ghost use Rattle.meaning.specs.Calls.{Call, mark-at};
 ghost use Rattle.meaning.specs.Calls;
 ghost use Rattle.cuts.specs.Steps.{line-of};
 ghost use Rattle.session_record.specs.Step.{answer-of, no-property, fresh-of, stepped-of};
@@ -100,9 +100,9 @@ pub fn line(s: Session, output: bool, action: u8, stamp: u64) -> Stepped
     }
 }
 
-// A gap mark.
-pub fn mark(s: Session, stamp: u64) -> Stepped
-    ensures { λ r. ⌜ r ≡ stepped-of s (Call.mark (record { stamp = stamp })) ⌝ }
+// A gap mark: the number of lost lines, 63 for more or unknown, and its stamp.
+pub fn mark(s: Session, lost: u8, stamp: u64) -> Stepped
+    ensures { λ r. ⌜ r ≡ stepped-of s (mark-at lost stamp) ⌝ }
 {
     if session_record::unfit(s) {
         return unmoved(s, 10);
@@ -123,6 +123,7 @@ pub fn mark(s: Session, stamp: u64) -> Stepped
         &mut masks,
         &mut marks,
         status,
+        lost,
         stamp,
     );
     let closing = marked.answer;

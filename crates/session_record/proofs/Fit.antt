@@ -16,7 +16,7 @@ use Rattle.meaning.specs.Matcher.{Lengths, none-of}
 use Rattle.meaning.specs.Step.{Held, Front, Cuts, lengths}
 use Rattle.meaning.proofs.Tests.{some-to-none}
 use Rattle.meaning.proofs.Refusals.{first-of-none, none-first, given-none}
-use Rattle.meaning.proofs.Calls.{not-refused-stamp}
+use Rattle.meaning.proofs.Calls.{not-refused-stamp, not-refused-mark}
 use Rattle.meaning.proofs.Fronts.{few-first}
 use Rattle.meaning.proofs.InOrder.{InOrder, ended, nothing, stamp-at, order-inputs, order-next, order-within, order-first, order-with}
 use Rattle.meaning.proofs.Throughout.{Throughout, Preserved, with-throughout, fresh-throughout, none-throughout}
@@ -175,7 +175,7 @@ module _ (p : Property) (good : property-refusal (meant p) ≡ 0) where
           (few-first (meant p) (lengths (meant p)) (l .action) (l .stamp))
       go true false few le h = blind-fit p (l .stamp) h
       go false y few le h = open-fit (c .front) (c .latest) (f .order) (f .short) le h (ltb-false most-open _ few)
-  taken-fit {c} f (Call.mark g) e = blind-fit p (g .stamp) (stamp-limit (c .latest) (g .stamp) e)
+  taken-fit {c} f (Call.mark g) e = blind-fit p (g .stamp) (stamp-limit (c .latest) (g .stamp) (not-refused-mark (c .latest) g e))
 
   pub next-fit : {c : Cuts Lengths} → Fit p c → (k : Call) → Fit p (next-by p c k)
   next-fit {c} f k = go (refusal-by p c k) (taken-fit f k)

@@ -39,8 +39,8 @@ one-at-most : (out : Bool) → 0 + cond out 0 1 ≤ 64
 one-at-most true = omega arith
 one-at-most false = omega arith
 
-line-refused-requires : tie.Need-line-refused-requires
-line-refused-requires c κs = search needs
+refused-requires : tie.Need-refused-requires
+refused-requires c κs = search needs
 
 unmoved-requires : tie.Need-unmoved-requires
 unmoved-requires c κs = search needs
@@ -49,7 +49,7 @@ returns : tie.Need-returns
 returns c =
     let b = c .before .before .before in
     let a = b .args in
-    let number = c .before .before .line-refused in
+    let number = c .before .before .refused in
     refused-leads (entry b) (b .pre .0) (call b) (number .result)
     (line-refused (a .p) (cuts-of (entry b)) (a .out) (a .act) (a .t) (number .result) (number .ensures) (c .before .if1 .taken)) (c .before .if1 .taken)
     (c .unmoved .result) (c .unmoved .ensures)
@@ -72,7 +72,7 @@ returns-2 c =
     let e = c .before .before .before .before .before in
     let b = start e in
     let a = b .args in
-    let number = e .before .line-refused in
+    let number = e .before .refused in
     skipped-leads (entry b) (b .pre .0) (a .out) (a .act) (a .t) (number .result) (number .ensures) (e .if1 .left) (c .before .before .before .before .if2 .taken)
     (omega (arith, c .before .if3 .taken)) (c .blinded .result) (c .blinded .ensures)
 
@@ -85,7 +85,7 @@ run-on-requires c κs =
     let e = from-first f in
     let b = start e in
     let a = b .args in
-    let number = e .before .line-refused in
+    let number = e .before .refused in
     let first = c .before .before .before .before .begin in
     let holds =
     begun-usable (entry b) (b .pre .0) (a .out) (a .act) (a .t) (number .result) (number .ensures) (e .if1 .left) (f .before .before .before .if2 .taken)
@@ -104,7 +104,7 @@ returns-3 c =
     let e = from-first f in
     let b = start e in
     let a = b .args in
-    let number = e .before .line-refused in
+    let number = e .before .refused in
     let first = c .before .before .before .before .before .begin in
     let r = c .run-on in
     let blind = f .before .before .before .if2 .taken in
@@ -133,7 +133,7 @@ returns-4 c =
     let e = c .before .before .before .before .before .before in
     let b = start e in
     let a = b .args in
-    let number = e .before .line-refused in
+    let number = e .before .refused in
     let closed = c .before .before .before .closed-count in
     refused-leads (entry b) (b .pre .0) (call b) 6
     (crowded-is (entry b) (b .pre .0) (a .out) (a .act) (a .t) (number .result) (number .ensures) (e .if1 .left) (c .before .before .before .before .before .if2 .left)
@@ -147,7 +147,7 @@ run-on-requires-2 c κs =
     let e = from-next f in
     let b = start e in
     let a = b .args in
-    let number = e .before .line-refused in (
+    let number = e .before .refused in (
       (open-usable (entry b) (b .pre .0) (f .before .before .before .before .if2 .left), b .pre .1),
       (
         f .before .before .closed-count .ensures,
@@ -162,7 +162,7 @@ returns-5 c =
     let e = from-next f in
     let b = start e in
     let a = b .args in
-    let number = e .before .line-refused in
+    let number = e .before .refused in
     let closed = f .before .before .closed-count in
     let r = c .run-on2 in
     next-leads (entry b) (b .pre .0) (a .out) (a .act) (a .t) (number .result) (number .ensures) (e .if1 .left) (f .before .before .before .before .if2 .left)
@@ -173,7 +173,7 @@ pub line-spec : {M : Type 1} → statement M
 line-spec =
     tie.close
     (tie.spec
-    line-refused-requires
+    refused-requires
     unmoved-requires
     returns
     mul-if3

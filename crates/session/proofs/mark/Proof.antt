@@ -1,7 +1,7 @@
 -- `session::mark` meets its contract: refusal 10, or the call on its arrays, tidied.
 use mathlib.Core.Path.{_≡_, sym, ap, subst, _∙_}
 use mathlib.Core.Bool.{false}
-use Rattle.meaning.specs.Calls.{Call}
+use Rattle.meaning.specs.Calls.{Call, mark-at}
 use Rattle.session_record.specs.declared.Session.{Session}
 use Rattle.session_record.specs.Record.{out-of-range}
 use Rattle.session_record.specs.Lent.{in-arrays, tidied, Ready, Advanced}
@@ -24,7 +24,7 @@ abbrev given : tie.After-tidy → Session
 given k = passed k .before .before .args .s
 
 abbrev call : tie.After-tidy → Call
-call k = let a = passed k .before .before .args in Call.mark (record { stamp = a .stamp })
+call k = let a = passed k .before .before .args in mark-at (a .lost) (a .stamp)
 
 -- from the call on the arrays back to where they were tidied, and the record that it leads to
 abbrev start : tie.After-mark → tie.After-tidy
@@ -48,7 +48,7 @@ returns : tie.Need-returns
 returns c =
     let e = c .before in
     let a = e .before .before .args in
-    c .unmoved .ensures ∙ sym (named-refused (a .s) (Call.mark (record { stamp = a .stamp })) (sym (e .before .unfit .ensures) ∙ e .if1 .taken))
+    c .unmoved .ensures ∙ sym (named-refused (a .s) (mark-at (a .lost) (a .stamp)) (sym (e .before .unfit .ensures) ∙ e .if1 .taken))
 
 tidy-requires : tie.Need-tidy-requires
 tidy-requires c κs = (
