@@ -29,6 +29,13 @@ pub read-whole : {s : List ℕ} {before : ℕ} {r : RecordRead} → IsRead s bef
 read-whole {s} {before} h e =
     is-taken s before (sym (refusal-of s before) ∙ sym (ap (λ (a : RecordAnswer). a .refusal) (h .in-numbers)) ∙ e) .size
 
+-- and its kind and action are what stands in its fields.
+pub fields-read : (s : List ℕ) (before : ℕ) → record-answer s before .refusal ≡ 0
+    → (record-answer s before .kind ≡ field s 0 2) × (record-answer s before .action ≡ field s 2 6)
+fields-read s before e =
+    let same = taken-answer s before (sym (refusal-of s before) ∙ e) in
+    (ap (λ (a : RecordAnswer). a .kind) same, ap (λ (a : RecordAnswer). a .action) same)
+
 -- ---- traces
 
 -- A record that is taken as an entry stands for the entry's call, and an end record for the end.
@@ -36,7 +43,7 @@ pub entry-read : (e : Entry) → read-as (taken (kind-of e) (action-of e) (stamp
 unfolding read-as case-by
 entry-read (Entry.input action stamp) = refl
 entry-read (Entry.output action stamp) = refl
-entry-read (Entry.gap stamp) = refl
+entry-read (Entry.gap lost stamp) = refl
 
 pub end-read : (action stamp : ℕ) → read-as (taken Record.end action stamp) ≡ ReadAs.end
 unfolding read-as case-by

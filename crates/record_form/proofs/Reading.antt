@@ -15,7 +15,7 @@ use Rattle.fields.proofs.Laws.{number-lt, bit-lt}
 use Rattle.record_form.specs.declared.RecordRead.{RecordRead}
 use Rattle.record_form.specs.declared.RecordRead.the-variants.{Refused}
 use Rattle.record_form.specs.Record.{Reader, ReadBy, RecordAnswer, numbers, case-of, case-by, taken, refused, answered, broken, stamp-above, fields-refusal, read-refusal, record-answer, IsRead, bytes-read}
-use Rattle.record_form.proofs.Rules.{broken-gap, broken-end, broken-kind}
+use Rattle.record_form.proofs.Rules.{broken-end, broken-kind}
 
 -- ---- fields
 pub field-lt : (s : List ℕ) (i k : ℕ) → field s i k < 2 ^ k
@@ -68,12 +68,11 @@ none z = absurd z
 
 -- What a record that is not broken keeps to, by its kind.
 pub unbroken : (kind action : ℕ) (other : Bool) → broken kind action other ≡ false
-    → (kind ≤ 3) × (2 ≤ kind → action ≡ 0) × (kind ≡ 3 → other ≡ false)
+    → (kind ≤ 3) × (kind ≡ 3 → action ≡ 0) × (kind ≡ 3 → other ≡ false)
 unfolding broken
 unbroken zero action other e = (omega arith, (λ h. none (omega arith)), (λ h. none (omega arith)))
 unbroken (suc zero) action other e = (omega arith, (λ h. none (omega arith)), (λ h. none (omega arith)))
-unbroken (suc (suc zero)) action other e =
-    (omega arith, (λ h. is-zero action (sym (broken-gap 2 action other refl) ∙ e)), (λ h. none (omega arith)))
+unbroken (suc (suc zero)) action other e = (omega arith, (λ h. none (omega arith)), (λ h. none (omega arith)))
 unbroken (suc (suc (suc zero))) action other e =
     let p = or-split (not (eqb action 0)) other (sym (broken-end 3 action other refl) ∙ e) in
     (omega arith, (λ h. is-zero action (p .0)), (λ h. p .1))
@@ -81,13 +80,13 @@ unbroken (suc (suc (suc (suc kind)))) action other e =
     absurd (true≢false (sym (broken-kind (suc (suc (suc (suc kind)))) action other (omega arith)) ∙ e))
 
 -- the enum's case says the same numbers
-same-numbers : (kind action stamp : ℕ) → kind ≤ 3 → (2 ≤ kind → action ≡ 0)
+same-numbers : (kind action stamp : ℕ) → kind ≤ 3 → (kind ≡ 3 → action ≡ 0)
     → numbers (case-by 0 kind action stamp) ≡ taken kind action stamp
 unfolding case-by
 same-numbers zero action stamp h z = refl
 same-numbers (suc zero) action stamp h z = refl
-same-numbers (suc (suc zero)) action stamp h z = ap (λ a. taken 2 a stamp) (sym (z (omega arith)))
-same-numbers (suc (suc (suc zero))) action stamp h z = ap (λ a. taken 3 a stamp) (sym (z (omega arith)))
+same-numbers (suc (suc zero)) action stamp h z = refl
+same-numbers (suc (suc (suc zero))) action stamp h z = ap (λ a. taken 3 a stamp) (sym (z refl))
 same-numbers (suc (suc (suc (suc kind)))) action stamp h z = let z : ⊥ = omega arith in absurd z
 
 pub none-of-fields : (kind action less before : ℕ) → fields-refusal kind action less before ≡ 0

@@ -121,7 +121,7 @@ module _ (s : List ℕ) (before kind action stamp : ℕ) (e : record-answer s be
   pub end-stamp : kind ≡ 3 → (action ≡ 0) × (stamp ≡ before)
   end-stamp h =
       let u = unbroken _ _ _ (read-is-writable .sound) in
-      (u .1 (omega arith), eqb-true stamp before (not-false _ (u .2 h)))
+      (u .1 h, eqb-true stamp before (not-false _ (u .2 h)))
 
   pub read-is-form : Bytes s → take 6 s ≡ record-form kind action (stamp - before)
   read-is-form b = sym (fields-form s b size-read) ∙ rw (is-kind, is-action, is-less)

@@ -40,15 +40,12 @@ sum-past before less h = simp (le-ltb last-stamp before h, or-false) (go (ltb (l
     go false e = e ∙ sym (le-ltb last-stamp (before + less) (omega (arith, ltb-false (last-stamp - before) less e)))
 
 -- ---- refusal 8, by the kind
-pub broken-line : (kind action : ℕ) (other : Bool) → kind < 2 → broken kind action other ≡ false
+pub broken-none : (kind action : ℕ) (other : Bool) → kind < 3 → broken kind action other ≡ false
 unfolding broken
-broken-line zero action other h = refl
-broken-line (suc zero) action other h = refl
-broken-line (suc (suc kind)) action other h = let z : ⊥ = omega arith in absurd z
-
-pub broken-gap : (kind action : ℕ) (other : Bool) → kind ≡ 2 → broken kind action other ≡ not (eqb action 0)
-unfolding broken
-broken-gap kind action other h = rw h (simp or-false)
+broken-none zero action other h = refl
+broken-none (suc zero) action other h = refl
+broken-none (suc (suc zero)) action other h = refl
+broken-none (suc (suc (suc kind))) action other h = let z : ⊥ = omega arith in absurd z
 
 pub broken-end : (kind action : ℕ) (other : Bool) → kind ≡ 3 → broken kind action other ≡ (not (eqb action 0) || other)
 unfolding broken
@@ -73,7 +70,7 @@ pub case-output : (kind action stamp : ℕ) → kind ≡ 1 → case-by 0 kind ac
 unfolding case-by
 case-output kind action stamp h = rw h
 
-pub case-gap : (kind action stamp : ℕ) → kind ≡ 2 → case-by 0 kind action stamp ≡ Gap stamp
+pub case-gap : (kind action stamp : ℕ) → kind ≡ 2 → case-by 0 kind action stamp ≡ Gap action stamp
 unfolding case-by
 case-gap kind action stamp h = rw h
 

@@ -62,18 +62,18 @@ trace-one-packing s t before trace bs bt hs ht =
 same-entry : (e f : Entry) → taken (kind-of e) (action-of e) (stamp-of e) ≡ taken (kind-of f) (action-of f) (stamp-of f) → e ≡ f
 same-entry (Entry.input a t) (Entry.input b u) h = ap₂ Entry.input (ap (λ (x : RecordAnswer). x .action) h) (ap (λ (x : RecordAnswer). x .stamp) h)
 same-entry (Entry.input a t) (Entry.output b u) h = let z : ⊥ = omega (arith, ap (λ (x : RecordAnswer). x .kind) h) in absurd z
-same-entry (Entry.input a t) (Entry.gap u) h = let z : ⊥ = omega (arith, ap (λ (x : RecordAnswer). x .kind) h) in absurd z
+same-entry (Entry.input a t) (Entry.gap n u) h = let z : ⊥ = omega (arith, ap (λ (x : RecordAnswer). x .kind) h) in absurd z
 same-entry (Entry.output a t) (Entry.input b u) h = let z : ⊥ = omega (arith, ap (λ (x : RecordAnswer). x .kind) h) in absurd z
 same-entry (Entry.output a t) (Entry.output b u) h = ap₂ Entry.output (ap (λ (x : RecordAnswer). x .action) h) (ap (λ (x : RecordAnswer). x .stamp) h)
-same-entry (Entry.output a t) (Entry.gap u) h = let z : ⊥ = omega (arith, ap (λ (x : RecordAnswer). x .kind) h) in absurd z
-same-entry (Entry.gap t) (Entry.input b u) h = let z : ⊥ = omega (arith, ap (λ (x : RecordAnswer). x .kind) h) in absurd z
-same-entry (Entry.gap t) (Entry.output b u) h = let z : ⊥ = omega (arith, ap (λ (x : RecordAnswer). x .kind) h) in absurd z
-same-entry (Entry.gap t) (Entry.gap u) h = ap Entry.gap (ap (λ (x : RecordAnswer). x .stamp) h)
+same-entry (Entry.output a t) (Entry.gap n u) h = let z : ⊥ = omega (arith, ap (λ (x : RecordAnswer). x .kind) h) in absurd z
+same-entry (Entry.gap m t) (Entry.input b u) h = let z : ⊥ = omega (arith, ap (λ (x : RecordAnswer). x .kind) h) in absurd z
+same-entry (Entry.gap m t) (Entry.output b u) h = let z : ⊥ = omega (arith, ap (λ (x : RecordAnswer). x .kind) h) in absurd z
+same-entry (Entry.gap m t) (Entry.gap n u) h = ap₂ Entry.gap (ap (λ (x : RecordAnswer). x .action) h) (ap (λ (x : RecordAnswer). x .stamp) h)
 
 not-end : (e : Entry) → (action stamp : ℕ) → taken (kind-of e) (action-of e) (stamp-of e) ≡ taken Record.end action stamp → ⊥
 not-end (Entry.input a t) action stamp h = omega (arith, ap (λ (x : RecordAnswer). x .kind) h)
 not-end (Entry.output a t) action stamp h = omega (arith, ap (λ (x : RecordAnswer). x .kind) h)
-not-end (Entry.gap t) action stamp h = omega (arith, ap (λ (x : RecordAnswer). x .kind) h)
+not-end (Entry.gap m t) action stamp h = omega (arith, ap (λ (x : RecordAnswer). x .kind) h)
 
 pub taken-as-one : (size : ℕ) (reader : Reader) (s : List ℕ) (before : ℕ) (trace other : List Entry) → TakenBy size reader s before trace → TakenBy size reader s before other
     → trace ≡ other

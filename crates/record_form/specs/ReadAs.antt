@@ -16,7 +16,7 @@ pub data ReadAs : Type 0 where
 abbrev pub case-as : RecordRead → ReadAs
 case-as (Input action stamp) = ReadAs.call (entry-call (Entry.input action stamp))
 case-as (Output action stamp) = ReadAs.call (entry-call (Entry.output action stamp))
-case-as (Gap stamp) = ReadAs.call (entry-call (Entry.gap stamp))
+case-as (Gap lost stamp) = ReadAs.call (entry-call (Entry.gap lost stamp))
 case-as (End stamp) = ReadAs.end
 case-as (Refused number) = ReadAs.refused number
 

@@ -29,7 +29,7 @@ gap = 2
 abbrev pub end : ℕ
 end = 3
 
--- "Numbers that come back": the refusal, 0 for none, and the record's values.
+-- "Numbers that come back": the refusal, 0 for none, and the record's values; a gap's action is its number of lost lines.
 pub record RecordAnswer : Type 0 where
   pub refusal : ℕ
   pub kind : ℕ
@@ -52,7 +52,7 @@ answered number answer = unless-refused number answer (refused number)
 abbrev pub numbers : RecordRead → RecordAnswer
 numbers (Input action stamp) = taken input action stamp
 numbers (Output action stamp) = taken output action stamp
-numbers (Gap stamp) = taken gap 0 stamp
+numbers (Gap lost stamp) = taken gap lost stamp
 numbers (End stamp) = taken end 0 stamp
 numbers (Refused number) = refused number
 
@@ -60,7 +60,7 @@ numbers (Refused number) = refused number
 unfoldable pub case-by : ℕ → ℕ → ℕ → ℕ → RecordRead
 case-by zero zero action stamp = Input action stamp
 case-by zero (suc zero) action stamp = Output action stamp
-case-by zero (suc (suc zero)) action stamp = Gap stamp
+case-by zero (suc (suc zero)) action stamp = Gap action stamp
 case-by zero (suc (suc (suc more))) action stamp = End stamp
 case-by (suc number) kind action stamp = Refused (suc number)
 
@@ -68,12 +68,10 @@ case-by (suc number) kind action stamp = Refused (suc number)
 abbrev pub case-of : RecordAnswer → RecordRead
 case-of answer = case-by (answer .refusal) (answer .kind) (answer .action) (answer .stamp)
 
--- "Broken is: .. a gap with action not 0, an end with action or stamp field not 0 .., a kind to be written above 3."
+-- "Broken is: .. an end with action or stamp field not 0 .., a kind to be written above 3." Document 02, CR 7: "The 6-bit action field of
+-- a gap record becomes that number", of the lines that were lost, and the "refusal of a gap whose action is not 0 falls away".
 unfoldable pub broken : ℕ → ℕ → Bool → Bool
-broken kind action stamp-field-not-0 =
-    eqb kind gap && not (eqb action 0)
-    || eqb kind end && (not (eqb action 0) || stamp-field-not-0)
-    || ltb end kind
+broken kind action stamp-field-not-0 = eqb kind end && (not (eqb action 0) || stamp-field-not-0) || ltb end kind
 
 -- "4: a stamp above 2^40 − 1"; "a stamp before past the limit is itself refusal 4"
 unfoldable pub stamp-above : ℕ → ℕ → Bool

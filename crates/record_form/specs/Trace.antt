@@ -8,32 +8,33 @@ use Rattle.meaning.specs.Calls.{Call, mark-at}
 use Rattle.record_form.specs.Record
 use Rattle.record_form.specs.Record.{Reader, taken, record-size, record-answer, write-refusal, record-form}
 
--- What a trace has before its end record: a line, which is an input or an output with its stamp, or a gap mark.
+-- What a trace has before its end record: a line, which is an input or an output with its stamp, or a gap mark with the number of lost lines.
 pub data Entry : Type 0 where
   input : (action stamp : ℕ) → Entry
   output : (action stamp : ℕ) → Entry
-  gap : (stamp : ℕ) → Entry
+  gap : (lost stamp : ℕ) → Entry
 
 abbrev pub kind-of : Entry → ℕ
 kind-of (Entry.input action stamp) = Record.input
 kind-of (Entry.output action stamp) = Record.output
-kind-of (Entry.gap stamp) = Record.gap
+kind-of (Entry.gap lost stamp) = Record.gap
 
+-- "The 6-bit action field of a gap record becomes that number"
 abbrev pub action-of : Entry → ℕ
 action-of (Entry.input action stamp) = action
 action-of (Entry.output action stamp) = action
-action-of (Entry.gap stamp) = 0
+action-of (Entry.gap lost stamp) = lost
 
 abbrev pub stamp-of : Entry → ℕ
 stamp-of (Entry.input action stamp) = stamp
 stamp-of (Entry.output action stamp) = stamp
-stamp-of (Entry.gap stamp) = stamp
+stamp-of (Entry.gap lost stamp) = stamp
 
 -- The call on a session that an entry stands for.
 abbrev pub entry-call : Entry → Call
 entry-call (Entry.input action stamp) = Call.line (record { action = Action.input action; stamp = stamp })
 entry-call (Entry.output action stamp) = Call.line (record { action = Action.output action; stamp = stamp })
-entry-call (Entry.gap stamp) = mark-at stamp
+entry-call (Entry.gap lost stamp) = mark-at lost stamp
 
 -- The trace that is written from a stamp before: each record's form, and then the end record's, whose "stamp is the one before".
 unfoldable pub trace-form : ℕ → List Entry → List ℕ

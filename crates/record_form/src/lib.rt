@@ -18,8 +18,9 @@ pub enum RecordRead {
     // The action and the stamp.
     Input(u8, u64),
     Output(u8, u64),
+    // The number of lost lines, 63 for more or unknown, and the stamp.
+    Gap(u8, u64),
     // The stamp.
-    Gap(u64),
     End(u64),
     // The number.
     Refused(u64),
@@ -33,7 +34,7 @@ pub fn kind_field(s: &[u8]) -> u64
     fields::field_at(s, 0, 2)
 }
 
-// The 6 bits of action.
+// The 6 bits of action; of a gap, its number of lost lines.
 pub fn action_field(s: &[u8]) -> u8
     requires { ⌜ 1 ≤ length (now s) ⌝ }
     ensures { λ r. ⌜ r ≡ field (now (s .entry)) 2 6 ⌝ }
@@ -83,13 +84,10 @@ pub fn record_of(kind: u64, action: u8, less: u64, before: u64) -> RecordRead
             RecordRead::Output(action, before + less)
         }
         2 => {
-            if action != 0 {
-                return RecordRead::Refused(8);
-            }
             if sum_above(before, less) {
                 return RecordRead::Refused(4);
             }
-            RecordRead::Gap(before + less)
+            RecordRead::Gap(action, before + less)
         }
         // 3: two bits hold no other.
         _ => {
@@ -124,7 +122,7 @@ pub fn is_taken(read: RecordRead) -> bool
     match read {
         RecordRead::Input(_, _) => true,
         RecordRead::Output(_, _) => true,
-        RecordRead::Gap(_) => true,
+        RecordRead::Gap(_, _) => true,
         RecordRead::End(_) => true,
         RecordRead::Refused(number) => number == 0,
     }
@@ -148,7 +146,7 @@ fn to_be_broken(kind: u8, action: u8, later: bool) -> bool
     match kind {
         0 => false,
         1 => false,
-        2 => action != 0,
+        2 => false,
         3 => {
             if action != 0 {
                 return true;

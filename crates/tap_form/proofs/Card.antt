@@ -1,27 +1,27 @@
 -- The card's records of true stamps are read back as the lines that they are of, and whatever is read as lines is what the card sends for
 -- them: only one packing of each trace is taken.
 use Prim.Native.Nat.{ℕ, _+_, _^_, _<_, _≤_}
-use mathlib.Core.Bool.{Bool, false, not}
+use mathlib.Core.Bool.{Bool, false, not, cond}
 use mathlib.Core.Path.{_≡_, refl, sym, _∙_, ap, ap₂, subst}
 use mathlib.Core.List.{List, [], _∷_, _++_, append-nil}
 use native.Mathlib.Omega.{arith}
 use lib.ListN.{length, take, drop, length-append, take-append-drop}
 use lib.Dec.{eqb, lit≤}
 use lib.Seq.{drop-at}
-use borrow.Author.Tests.{eq-eqb, eqb-true, not-false}
-use Rattle.meaning.specs.Limits.{last-stamp, last-action}
+use borrow.Author.Tests.{eq-eqb, ne-eqb, eqb-true, not-false}
+use Rattle.meaning.specs.Limits.{last-stamp, last-action, most-lost}
 use Rattle.fields.specs.Fields.{field}
 use Rattle.record_form.specs.Record.{Bytes, RecordAnswer, end, taken, answered, broken, stamp-above}
 use Rattle.record_form.specs.Trace.{Entry, kind-of, action-of, stamp-of, CanBeWritten}
-use Rattle.record_form.proofs.Rules.{none-past, within, broken-end}
+use Rattle.record_form.proofs.Rules.{none-past, within, broken-none, broken-end}
 use Rattle.record_form.proofs.Parts.{three-form, length-form-three, form-kind, form-action, form-third}
 use Rattle.record_form.proofs.Reading.{field-lt, unbroken}
 use Rattle.record_form.proofs.RoundTrip.{write-none}
 use Rattle.record_form.proofs.Trace.{Bytes-drop}
-use Rattle.tap_form.specs.Tap.{counter-at, since, tap-stamp, tap-fields-refusal, tap-answer, tap-form}
-use Rattle.tap_form.specs.Card.{card-form, CardCanSay, TapTakenAs}
+use Rattle.tap_form.specs.Tap.{counter-at, since, tap-stamp, tap-broken, tap-action, tap-fields-refusal, tap-answer, tap-form}
+use Rattle.tap_form.specs.Card.{card-action, CardNumber, card-form, CardCanSay, TapTakenAs}
 use Rattle.tap_form.proofs.Wrapped.{counter-lt, since-back, since-lt, since-true}
-use Rattle.tap_form.proofs.Reading.{TapReadable, tap-numbers, tap-long, tap-fields, line-stamp, end-stamp}
+use Rattle.tap_form.proofs.Reading.{TapReadable, values, tap-numbers, tap-long, tap-fields, line-stamp, end-stamp, no-gap, gap-number}
 
 length-tap-form : (kind action counter : ℕ) → length (tap-form kind action counter) ≡ 5
 unfolding tap-form
@@ -29,8 +29,8 @@ length-tap-form kind action counter = length-form-three 32 kind action counter
 
 -- ---- out
 form-read : (kind action counter before : ℕ) (rest : List ℕ) → kind < 4 → action < 64 → counter < 2 ^ 32
-    → broken kind action (not (eqb counter 0)) ≡ false → stamp-above (tap-stamp kind counter before) before ≡ false
-    → tap-answer (tap-form kind action counter ++ rest) before ≡ taken kind action (tap-stamp kind counter before)
+    → tap-broken kind action (not (eqb counter 0)) ≡ false → stamp-above (tap-stamp kind counter before) before ≡ false
+    → tap-answer (tap-form kind action counter ++ rest) before ≡ taken kind (tap-action kind action) (tap-stamp kind counter before)
 unfolding tap-form tap-fields-refusal answered
 form-read kind action counter before rest hk ha hc sound in-range =
     let k = form-kind 32 kind action counter rest hk in
@@ -40,25 +40,32 @@ form-read kind action counter before rest hk ha hc sound in-range =
     ∙ (λ i. tap-numbers (k i) (a i) (c i) before)
     ∙ simp (sound, in-range)
 
-line-kind : (e : Entry) → (kind-of e < 3) × ((other : Bool) → broken (kind-of e) (action-of e) other ≡ false)
-unfolding broken
+line-kind : (e : Entry) → (kind-of e < 3) × ((other : Bool) → tap-broken (kind-of e) (card-action e) other ≡ false)
+unfolding tap-broken broken
 line-kind (Entry.input a t) = (lit≤ tt, (λ other. refl))
 line-kind (Entry.output a t) = (lit≤ tt, (λ other. refl))
-line-kind (Entry.gap t) = (lit≤ tt, (λ other. refl))
+line-kind (Entry.gap n t) = (lit≤ tt, (λ other. refl))
+
+-- a number that the card can say is read back from its action, and fits
+number-read : (e : Entry) → CardNumber e → (tap-action (kind-of e) (card-action e) ≡ action-of e) × (card-action e < 64) × (action-of e ≤ last-action)
+number-read (Entry.input a t) h = (refl, omega (arith, h), h)
+number-read (Entry.output a t) h = (refl, omega (arith, h), h)
+number-read (Entry.gap n t) h = (sym h, lit≤ tt, omega (arith, h))
 
 entry-read : (e : Entry) (before : ℕ) (rest : List ℕ) → before ≤ last-stamp → before ≤ stamp-of e → stamp-of e < before + 2 ^ 32
-    → stamp-of e ≤ last-stamp → action-of e ≤ last-action
-    → tap-answer (tap-form (kind-of e) (action-of e) (counter-at (stamp-of e)) ++ rest) before ≡ taken (kind-of e) (action-of e) (stamp-of e)
+    → stamp-of e ≤ last-stamp → CardNumber e
+    → tap-answer (tap-form (kind-of e) (card-action e) (counter-at (stamp-of e)) ++ rest) before ≡ taken (kind-of e) (action-of e) (stamp-of e)
 entry-read e before rest b l h t a =
     let k = line-kind e in
+    let n = number-read e a in
     let same : tap-stamp (kind-of e) (counter-at (stamp-of e)) before ≡ stamp-of e =
     line-stamp (kind-of e) (counter-at (stamp-of e)) before (k .0) ∙ since-true (stamp-of e) before l h in
-    form-read (kind-of e) (action-of e) (counter-at (stamp-of e)) before rest (omega (arith, k .0)) (omega (arith, a)) (counter-lt (stamp-of e)) (k .1 _)
+    form-read (kind-of e) (card-action e) (counter-at (stamp-of e)) before rest (omega (arith, k .0)) (n .1) (counter-lt (stamp-of e)) (k .1 _)
     (none-past _ _ (omega (arith, same, t)) b)
-    ∙ ap (taken (kind-of e) (action-of e)) same
+    ∙ ap₂ (taken (kind-of e)) (n .0) same
 
 end-read : (before : ℕ) (rest : List ℕ) → before ≤ last-stamp → tap-answer (tap-form end 0 0 ++ rest) before ≡ taken end 0 before
-unfolding broken
+unfolding tap-broken broken
 end-read before rest b =
     let same = end-stamp end 0 before refl in
     form-read end 0 0 before rest (lit≤ tt) (lit≤ tt) (lit≤ tt) refl (none-past _ _ (omega (arith, same, b)) b) ∙ ap (taken end 0) same
@@ -68,45 +75,59 @@ module _ (s : List ℕ) (before kind action stamp : ℕ) (e : tap-answer s befor
   there : TapReadable s before
   there = tap-fields s before kind action stamp e .0
 
-  values : taken (field s 0 2) (field s 2 6) (tap-stamp (field s 0 2) (field s 8 32) before) ≡ taken kind action stamp
-  values = tap-fields s before kind action stamp e .1
+  same : values s before ≡ taken kind action stamp
+  same = tap-fields s before kind action stamp e .1
 
   is-kind : field s 0 2 ≡ kind
-  is-kind = ap (λ (a : RecordAnswer). a .kind) values
+  is-kind = ap (λ (a : RecordAnswer). a .kind) same
 
-  is-action : field s 2 6 ≡ action
-  is-action = ap (λ (a : RecordAnswer). a .action) values
+  is-action : tap-action (field s 0 2) (field s 2 6) ≡ action
+  is-action = ap (λ (a : RecordAnswer). a .action) same
 
   is-stamp : tap-stamp (field s 0 2) (field s 8 32) before ≡ stamp
-  is-stamp = ap (λ (a : RecordAnswer). a .stamp) values
+  is-stamp = ap (λ (a : RecordAnswer). a .stamp) same
+
+  -- what is no gap has its own action
+  own-action : (kind ≡ 2 → ⊥) → field s 2 6 ≡ action
+  own-action n = ap (λ (b : Bool). cond b most-lost (field s 2 6)) (sym (ne-eqb (field s 0 2) 2 (λ q. n (sym is-kind ∙ q)))) ∙ is-action
 
   before-within : before ≤ last-stamp
   before-within = within _ _ (there .in-range) .1
 
-  read-form : Bytes s → (counter : ℕ) → field s 8 32 ≡ counter → take 5 s ≡ tap-form kind action counter
+  read-form : Bytes s → (number counter : ℕ) → field s 2 6 ≡ number → field s 8 32 ≡ counter → take 5 s ≡ tap-form kind number counter
   unfolding tap-form
-  read-form b counter c = sym (three-form 32 s b (there .size) (lit≤ tt)) ∙ rw (is-kind, is-action, c)
+  read-form b number counter n c = sym (three-form 32 s b (there .size) (lit≤ tt)) ∙ rw (is-kind, n, c)
 
   module _ (line : kind < 3) where
     sum : before + since (field s 8 32) before ≡ stamp
     sum = sym (line-stamp (field s 0 2) (field s 8 32) before (omega (arith, is-kind, line))) ∙ is-stamp
 
-    line-form : Bytes s → take 5 s ≡ tap-form kind action (counter-at stamp)
-    line-form b = read-form b (counter-at stamp) (sym (since-back (field s 8 32) before (field-lt s 8 32)) ∙ ap counter-at sum)
+    line-form : Bytes s → (number : ℕ) → field s 2 6 ≡ number → take 5 s ≡ tap-form kind number (counter-at stamp)
+    line-form b number n = read-form b number (counter-at stamp) n (sym (since-back (field s 8 32) before (field-lt s 8 32)) ∙ ap counter-at sum)
 
-    line-said : (before ≤ stamp) × (stamp < before + 2 ^ 32) × (stamp ≤ last-stamp) × (action ≤ last-action)
+    line-said : (before ≤ stamp) × (stamp < before + 2 ^ 32) × (stamp ≤ last-stamp)
     line-said = (
       omega (arith, sum),
       omega (arith, sum, since-lt (field s 8 32) before),
       omega (arith, within _ _ (there .in-range) .0, is-stamp),
-      omega (arith, is-action, field-lt s 2 6),
     )
 
   module _ (ends : kind ≡ 3) (none : action ≡ 0) where
     end-form : Bytes s → take 5 s ≡ tap-form end 0 0
     end-form b =
-        let u = unbroken _ _ _ (there .sound) in
-        read-form b 0 (eqb-true (field s 8 32) 0 (not-false _ (u .2 (is-kind ∙ ends)))) ∙ ap₂ (λ (k a : ℕ). tap-form k a 0) ends none
+        let u = unbroken _ _ _ (sym (no-gap (field s 0 2) (field s 2 6) _ (λ q. omega (arith, is-kind, ends, q))) ∙ there .sound) in
+        read-form b 0 0 (own-action (λ q. omega (arith, ends, q)) ∙ none) (eqb-true (field s 8 32) 0 (not-false _ (u .2 (is-kind ∙ ends)))) ∙ ap (λ (k : ℕ). tap-form k 0 0) ends
+
+-- the action of an entry's record, and that its number is one that the card can say
+entry-number : (s : List ℕ) (before : ℕ) (e : Entry) → tap-answer s before ≡ taken (kind-of e) (action-of e) (stamp-of e)
+    → (field s 2 6 ≡ card-action e) × CardNumber e
+entry-number s before (Entry.input a t) h = let n = own-action s before 0 a t h (λ q. omega arith) in (n, omega (arith, n, field-lt s 2 6))
+entry-number s before (Entry.output a t) h = let n = own-action s before 1 a t h (λ q. omega arith) in (n, omega (arith, n, field-lt s 2 6))
+entry-number s before (Entry.gap n t) h =
+    let is-gap = is-kind s before 2 n t h in (
+      gap-number (field s 0 2) (field s 2 6) _ is-gap (there s before 2 n t h .sound),
+      sym (ap (λ (b : Bool). cond b most-lost (field s 2 6)) (sym (eq-eqb (field s 0 2) 2 is-gap)) ∙ is-action s before 2 n t h),
+    )
 
 -- ---- whole traces
 
@@ -120,7 +141,7 @@ card-reads-back before [] b can = (
 card-reads-back before (e ∷ trace) b can = (
   entry-read e before (card-form trace) b (can .0) (can .1) (can .2) (can .3),
   subst (λ (l : List ℕ). TapTakenAs l (stamp-of e) trace)
-      (sym (drop-at (tap-form (kind-of e) (action-of e) (counter-at (stamp-of e))) (card-form trace) 5 (length-tap-form _ _ _)))
+      (sym (drop-at (tap-form (kind-of e) (card-action e) (counter-at (stamp-of e))) (card-form trace) 5 (length-tap-form _ _ _)))
       (card-reads-back (stamp-of e) trace (can .2) (can .4)),
 )
 
@@ -138,10 +159,11 @@ card-writes-back s before [] b h = (
 card-writes-back s before (e ∷ trace) b h =
     let k = line-kind e .0 in
     let r = card-writes-back (drop 5 s) (stamp-of e) trace (Bytes-drop 5 s b) (h .1) in
-    let said = line-said s before (kind-of e) (action-of e) (stamp-of e) (h .0) k in (
-      sym (take-append-drop 5 s) ∙ ap₂ (λ (x y : List ℕ). x ++ y) (line-form s before (kind-of e) (action-of e) (stamp-of e) (h .0) k b) (r .0),
+    let said = line-said s before (kind-of e) (action-of e) (stamp-of e) (h .0) k in
+    let n = entry-number s before e (h .0) in (
+      sym (take-append-drop 5 s) ∙ ap₂ (λ (x y : List ℕ). x ++ y) (line-form s before (kind-of e) (action-of e) (stamp-of e) (h .0) k b (card-action e) (n .0)) (r .0),
       before-within s before (kind-of e) (action-of e) (stamp-of e) (h .0),
-      (said .0, said .1, said .2, said .3, r .2),
+      (said .0, said .1, said .2, n .1, r .2),
     )
 
 -- So two traces that are read as the same lines are the same bytes.
@@ -161,8 +183,8 @@ card-can-be-written before [] b can =
     })
 card-can-be-written before (e ∷ trace) b can = (
   write-none (record {
-    sound = line-kind e .1 _;
-    action-fits = can .3;
+    sound = broken-none (kind-of e) (action-of e) _ (line-kind e .0);
+    action-fits = number-read e (can .3) .2;
     in-range = none-past (stamp-of e) before (can .2) b;
     not-below = can .0;
     fits = lit≤ tt;

@@ -5,7 +5,8 @@ ghost use lib.ListN.{length};
 ghost use Rattle.fields.specs.Fields.{field};
 ghost use Rattle.fields.specs.Rest.{Rest};
 ghost use Rattle.record_form.specs.Record.{case-of, taken, answered};
-ghost use Rattle.tap_form.specs.Tap.{tap-size, since, tap-stamp, tap-fields-refusal, IsTapRead, tap-bytes-read};
+ghost use Rattle.tap_form.specs.Tap.{tap-size, since, tap-stamp, tap-action, tap-fields-refusal, IsTapRead, tap-bytes-read};
+use limits::MOST_LOST;
 use record_form::RecordRead;
 
 // "records of 5 bytes"
@@ -33,12 +34,19 @@ fn time_since(counter: u32, before: u64) -> u64
     less(counter, (before % 4_294_967_296) as u32) as u64
 }
 
-// The record that these fields are: by its kind as in document 01, but that the counter of an end is no time, and is 0.
+// The record that these fields are: by its kind as in document 01, but that the counter of an end is no time, and is 0, and that the card
+// does not say how many lines a gap lost.
 fn tap_of(kind: u64, action: u8, counter: u32, before: u64) -> RecordRead
     requires { ⌜ kind < 4 ⌝ }
-    ensures { λ r. ⌜ r ≡ case-of (answered (tap-fields-refusal kind action counter before) (taken kind action (tap-stamp kind counter before))) ⌝ }
+    ensures { λ r. ⌜ r ≡ case-of (answered (tap-fields-refusal kind action counter before) (taken kind (tap-action kind action) (tap-stamp kind counter before))) ⌝ }
 {
     match kind {
+        2 => {
+            if action != 0 {
+                return RecordRead::Refused(8);
+            }
+            record_form::record_of(kind, MOST_LOST, time_since(counter, before), before)
+        }
         3 => record_form::record_of(kind, action, counter as u64, before),
         _ => record_form::record_of(kind, action, time_since(counter, before), before),
     }

@@ -1,27 +1,63 @@
--- `tap_form::tap_of` meets its contract: an end by its counter, what is none by the wrapped difference.
+-- `tap_form::tap_of` meets its contract: a gap with the number that it counts as, an end by its counter, what is none by the wrapped difference.
 use borrow.Author.Needs.{needs}
-use mathlib.Core.Path.{_∙_, ap}
-use Rattle.record_form.specs.Record.{case-of}
-use Rattle.tap_form.proofs.Reading.{end-as-record, line-as-record}
+use native.Mathlib.Omega.{arith}
+use Prim.Native.Nat.{ℕ}
+use mathlib.Core.Path.{_≡_, sym, _∙_, ap}
+use mathlib.Core.Bool.{Bool, cond}
+use borrow.Author.Tests.{eq-eqb, ne-eqb}
+use Rattle.meaning.specs.Limits.{most-lost}
+use Rattle.record_form.specs.Record.{case-of, case-by}
+use Rattle.tap_form.specs.Tap.{tap-action}
+use Rattle.tap_form.proofs.Reading.{gap-refused, end-as-record, line-as-record}
 use Rattle.tap_form.proofs.tap_of.Statement.{statement}
 use Rattle.tap_form.proofs.tap_of.Tie as tie
 
-record-of-requires : tie.Need-record-of-requires
-record-of-requires c κs = search needs
+-- "count as 63", and what is no gap has its own action
+gap-counts : (kind action : ℕ) → kind ≡ 2 → most-lost ≡ tap-action kind action
+gap-counts kind action e = ap (λ (b : Bool). cond b most-lost action) (sym (eq-eqb kind 2 e))
+
+own-action : (kind action : ℕ) → (kind ≡ 2 → ⊥) → action ≡ tap-action kind action
+own-action kind action n = ap (λ (b : Bool). cond b most-lost action) (sym (ne-eqb kind 2 n))
+
+returns : tie.Need-returns
+unfolding case-by
+returns c = sym (ap case-of (gap-refused _ _ _ _ (c .before .match .keys1) (c .if1 .taken)))
 
 time-since-requires : tie.Need-time-since-requires
 time-since-requires c κs = search needs
 
+record-of-requires : tie.Need-record-of-requires
+record-of-requires c κs = search needs
+
 record-of-requires-2 : tie.Need-record-of-requires-2
 record-of-requires-2 c κs = search needs
 
-returns : tie.Need-returns
-returns c = c .record-of .ensures ∙ ap case-of (end-as-record _ _ _ _ (c .before .before .pre) (c .before .match .keys1))
+time-since-requires-2 : tie.Need-time-since-requires-2
+time-since-requires-2 c κs = search needs
+
+record-of-requires-3 : tie.Need-record-of-requires-3
+record-of-requires-3 c κs = search needs
 
 returns-2 : tie.Need-returns-2
-returns-2 c = c .record-of2 .ensures ∙ ap case-of (line-as-record _ _ _ _ _ (c .before .before .before .pre) (c .before .before .match .rest .1) (c .before .time-since .ensures))
+returns-2 c = c .record-of .ensures ∙ ap case-of (line-as-record _ _ _ _ _ _ (c .before .before .before .before .pre) (λ q. omega arith) (λ q. c .before .before .if1 .left) (gap-counts _ _ (c .before .before .before .match .keys1)) (c .before .time-since .ensures))
+
+returns-3 : tie.Need-returns-3
+returns-3 c = c .record-of2 .ensures ∙ ap case-of (end-as-record _ _ _ _ (c .before .before .pre) (c .before .match .keys2))
+
+returns-4 : tie.Need-returns-4
+returns-4 c =
+    c .record-of3 .ensures ∙ ap case-of (line-as-record _ _ _ _ _ _ (c .before .before .before .pre) (c .before .before .match .rest .1) (λ q. absurd (c .before .before .match .rest .0 .1 q)) (own-action _ _ (c .before .before .match .rest .0 .1)) (c .before .time-since2 .ensures))
 
 pub tap-of-spec : {M : Type 1} → statement M
 tap-of-spec =
     tie.close
-    (tie.spec record-of-requires time-since-requires record-of-requires-2 returns returns-2)
+    (tie.spec
+    returns
+    time-since-requires
+    record-of-requires
+    record-of-requires-2
+    time-since-requires-2
+    record-of-requires-3
+    returns-2
+    returns-3
+    returns-4)
