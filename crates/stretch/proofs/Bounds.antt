@@ -7,7 +7,7 @@ use native.Mathlib.Omega.{arith}
 use lib.ListN.{length, drop}
 use lib.Dec.{ltb, eqb}
 use Rattle.meaning.specs.Node.{Verdict, verdict-number}
-use Rattle.meaning.specs.Limits.{last-stamp, most-open}
+use Rattle.meaning.specs.Limits.{most-lost, last-stamp, most-open}
 use Rattle.meaning.specs.Words.{Line}
 use Rattle.meaning.specs.Words
 use Rattle.meaning.specs.Numbers.{given, first-of, property-refusal, length-outside, bounds-outside, any-action-above, action-above}
@@ -29,8 +29,7 @@ use Rattle.session_record.specs.Step.{stepped-of, refusal-of, standing}
 use Rattle.session_record.proofs.Steps.{answer-refusal}
 use Rattle.walk.specs.declared.Stop.{Stop}
 use Rattle.walk.specs.declared.Stop.the-variants.{Budget, End, Refused}
-use Rattle.walk.specs.declared.Walked.{Walked}
-use Rattle.walk.specs.Walk.{One, one-call, one-read, one-of, walked-by, walk-on}
+use Rattle.walk.specs.Walk.{Walk, One, one-call, one-read, one-of, walked-by, walk-on}
 use Rattle.stretch.specs.declared.Judged.{Judged}
 use Rattle.stretch.specs.Judge.{refused, by-stop, walked, trace-judged, by-property, judge-of}
 
@@ -83,7 +82,7 @@ refusal-le s c = then-le 10 (out-of-range s) (refusal-by (s .property) (cuts-of 
     step-le (Call.line l) =
         then-le 3 (action-above (l .action)) (first-of (stamp-refusal (latest-of s) (l .stamp)) (given 6 (room l))) (omega arith)
         (first-le 10 (stamp-refusal (latest-of s) (l .stamp)) (given 6 (room l)) (stamp-le (latest-of s) (l .stamp)) (given-le 10 6 (room l) (omega arith)))
-    step-le (Call.mark g) = stamp-le (latest-of s) (g .stamp)
+    step-le (Call.mark g) = then-le 3 (ltb most-lost (g .lost)) (stamp-refusal (latest-of s) (g .stamp)) (omega arith) (stamp-le (latest-of s) (g .stamp))
 
 stepped-le : (s : Session) (c : Call) → stepped-of s c .answer .refusal ≤ 10
 stepped-le s c = subst (λ (n : ℕ). n ≤ 10) (sym (answer-refusal s c)) (refusal-le s c)
@@ -138,7 +137,7 @@ pub record Bounded (j : Judged) : Type 0 where
 refused-small : (n : ℕ) → n ≤ 10 → Bounded (refused n)
 refused-small n h = record { refusal-small = h; verdict-small = omega arith }
 
-stop-small : (stop : Stop) → StopLe stop → (behind : Bool) (w : Walked) → Bounded (by-stop stop behind w)
+stop-small : (stop : Stop) → StopLe stop → (behind : Bool) (w : Walk) → Bounded (by-stop stop behind w)
 unfolding by-stop standing
 stop-small Budget h behind w = refused-small 7 (omega arith)
 stop-small (Refused n) h behind w = refused-small n h

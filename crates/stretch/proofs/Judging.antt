@@ -28,8 +28,7 @@ use Rattle.session_record.proofs.Steps.{fresh-taken}
 use Rattle.session_record.proofs.Ready.{fit-ready}
 use Rattle.walk.specs.declared.Stop.{Stop}
 use Rattle.walk.specs.declared.Stop.the-variants.{Budget, End, Refused}
-use Rattle.walk.specs.declared.Walked.{Walked}
-use Rattle.walk.specs.Walk.{walk-on}
+use Rattle.walk.specs.Walk.{Walk, walk-on}
 use Rattle.stretch.specs.declared.Judged.{Judged}
 use Rattle.stretch.specs.Judge.{refused, ended, by-stop, trace-judged, by-property, judge-of, in-one, one-number}
 
@@ -47,14 +46,14 @@ module _ (p : Property) (good : property-refusal (meant p) ≡ 0) where
   fresh-ready r e = subst Ready (sym (lent-is r e)) (fit-ready p good (fresh-fit p))
 
   -- the judgement, by what the walk over the trace came to
-  pub judged-by : (trace : List ℕ) (r : Stepped) → r ≡ fresh-of p → (w : Walked) → walk-on (length trace) (lent r) trace ≡ w
+  pub judged-by : (trace : List ℕ) (r : Stepped) → r ≡ fresh-of p → (w : Walk) → walk-on (length trace) (lent r) trace ≡ w
       → trace-judged p trace ≡ by-stop (w .stop) (ltb (w .read) (length trace)) w
   judged-by trace r e w h =
-      ap (λ (x : Walked). by-stop (x .stop) (ltb (x .read) (length trace)) x)
+      ap (λ (x : Walk). by-stop (x .stop) (ltb (x .read) (length trace)) x)
       (ap (λ (s : Session). walk-on (length trace) s trace) (sym (lent-is r e)) ∙ h)
 
 -- each way to stop
-module _ (p : Property) (good : property-refusal (meant p) ≡ 0) (trace : List ℕ) (r : Stepped) (e : r ≡ fresh-of p) (w : Walked)
+module _ (p : Property) (good : property-refusal (meant p) ≡ 0) (trace : List ℕ) (r : Stepped) (e : r ≡ fresh-of p) (w : Walk)
     (h : walk-on (length trace) (lent p good r) trace ≡ w) where
   stopped-by : (stop : Stop) → w .stop ≡ stop → trace-judged p trace ≡ by-stop stop (ltb (w .read) (length trace)) w
   stopped-by stop q = judged-by p good trace r e w h ∙ ap (λ (x : Stop). by-stop x (ltb (w .read) (length trace)) w) q

@@ -11,8 +11,7 @@ use Rattle.session_record.specs.Record.{record-of}
 use Rattle.session_record.specs.Step.{standing}
 use Rattle.walk.specs.declared.Stop.{Stop}
 use Rattle.walk.specs.declared.Stop.the-variants.{Budget, End, Refused}
-use Rattle.walk.specs.declared.Walked.{Walked}
-use Rattle.walk.specs.Walk.{walk-on}
+use Rattle.walk.specs.Walk.{Walk, walk-on}
 use Rattle.stretch.specs.declared.Judged.{Judged}
 
 -- "the first refusal met gives its number alone, with verdict and count 0"
@@ -21,17 +20,17 @@ refused n = record { refusal = n; verdict = 0; count = 0 }
 
 -- A trace that was read up to its end record; `behind`: there are bytes behind it, which "are refusal 8, looked for when that
 -- part has been read without refusal".
-abbrev pub ended : Bool → Walked → Judged
+abbrev pub ended : Bool → Walk → Judged
 ended behind w = cond behind (refused 8) (record { refusal = 0; verdict = standing (w .session); count = w .taken })
 
 -- By how the walk over the trace stopped; "a stretch that stops without an end record" is refusal 7.
-unfoldable pub by-stop : Stop → Bool → Walked → Judged
+unfoldable pub by-stop : Stop → Bool → Walk → Judged
 by-stop Budget behind w = refused 7
 by-stop End behind w = ended behind w
 by-stop (Refused n) behind w = refused n
 
 -- A fresh session walks over the whole trace: each record takes some of its bytes, so their number is budget enough.
-abbrev pub walked : Property → List ℕ → Walked
+abbrev pub walked : Property → List ℕ → Walk
 walked p trace = walk-on (length trace) (record-of p (fresh-by p)) trace
 
 abbrev pub trace-judged : Property → List ℕ → Judged

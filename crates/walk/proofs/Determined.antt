@@ -28,7 +28,7 @@ pub walk-determined : (s : Session) (bytes : List ℕ) (budget : ℕ) (r t : Wal
 walk-determined s bytes budget r t e f =
     let same = e ∙ sym f in
     let stop = stop-told (r .stop) (t .stop) (ap (λ (w : Walking). w .stop) same) (ap (λ (w : Walking). w .refusal) same) in
-    λ i. record { taken = same i .taken; stop = stop i; read = same i .read; session = same i .session }
+    λ i. record { taken = same i .taken; stop = stop i; read = same i .read; lost = same i .lost; session = same i .session }
 
 -- Two rests are the same bytes in the same place.
 pub walk-rest-determined : {n : ℕ} {s r t : RefT (List ℕ)} → Rest n s r → Rest n s t → (ptr r ≡ ptr t) × (now r ≡ now t)

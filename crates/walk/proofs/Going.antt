@@ -1,6 +1,6 @@
 -- A walk on its way: what has been taken and read so far, and what is left of the walk.
-use Prim.Native.Nat.{ℕ, suc, _+_, _-_, _≤_, _<_}
-use mathlib.Core.Path.{_≡_, refl, sym, _∙_, ap, subst}
+use Prim.Native.Nat.{ℕ, suc, _+_, _-_, _*_, _≤_, _<_}
+use mathlib.Core.Path.{_≡_, refl, sym, _∙_, ap, ap₂, subst}
 use mathlib.Core.Bool.{Bool, true, false, cond}
 use mathlib.Core.List.{List}
 use native.Mathlib.Omega.{arith}
@@ -14,21 +14,24 @@ use Rattle.walk.specs.declared.Stop.{Stop}
 use Rattle.walk.specs.declared.Stop.the-variants.{Budget, End, Refused}
 use Rattle.walk.specs.declared.Did.{Did}
 use Rattle.walk.specs.declared.Did.the-variants.{Took, Ended, Not}
-use Rattle.walk.specs.declared.Walked.{Walked}
-use Rattle.walk.specs.Walk.{one-of, stopped, one-more, walked-by, walk-on, in-numbers, budget-of, walk-of}
+use Rattle.walk.specs.Walk.{Walk, one-of, stopped, one-more, walked-by, walk-on, lost-with, last-lost, answered, budget-of, walk-of}
 use Rattle.walk.specs.Lent.{did-by, Turned, HasGone}
+use Rattle.walk.proofs.Lost.{last-next}
 
 -- so many records and bytes before a walk
-abbrev pub ahead : ℕ → ℕ → Walked → Walked
+abbrev pub ahead : ℕ → ℕ → Walk → Walk
 ahead taken read w = record { taken = taken + w .taken; stop = w .stop; read = read + w .read; session = w .session }
 
-pub record Going (budget taken at : ℕ) (start now : Session) (bytes : List ℕ) : Type 0 where
+pub record Going (budget taken at : ℕ) (start now : Session) (lost : ℕ) (bytes : List ℕ) : Type 0 where
   pub within : taken ≤ budget
   pub inside : at ≤ length bytes
   pub ready : Ready now
   pub same : walk-on budget start bytes ≡ ahead taken at (walk-on (budget - taken) now (drop at bytes))
+  pub spaced : at ≡ record-size * taken
+  pub number : lost ≡ last-lost 0 taken bytes
 
-pub going-start : (budget : ℕ) (s : Session) (bytes : List ℕ) → Ready s → Going budget 0 0 s s bytes
+pub going-start : (budget : ℕ) (s : Session) (bytes : List ℕ) → Ready s → Going budget 0 0 s s 0 bytes
+unfolding last-lost
 going-start budget s bytes h =
     record {
       within = omega arith;
@@ -37,20 +40,22 @@ going-start budget s bytes h =
       same =
           let e : budget ≡ budget - 0 = omega arith in
           ap (λ (b : ℕ). walk-on b s bytes) e ∙ none-ahead (walk-on (budget - 0) s bytes);
+      spaced = refl;
+      number = refl;
     }
   where
-    none-ahead : (w : Walked) → w ≡ ahead 0 0 w
+    none-ahead : (w : Walk) → w ≡ ahead 0 0 w
     none-ahead w =
         let t : w .taken ≡ 0 + w .taken = omega arith in
         let r : w .read ≡ 0 + w .read = omega arith in
         λ i. record { taken = t i; stop = w .stop; read = r i; session = w .session }
 
-module _ {budget taken at : ℕ} {start now : Session} {bytes : List ℕ} (g : Going budget taken at start now bytes) where
+module _ {budget taken at : ℕ} {start now : Session} {lost : ℕ} {bytes : List ℕ} (g : Going budget taken at start now lost bytes) where
   -- with budget left the walk is what the next record leads to
-  next-record : {did : Did} {after : Session} → taken < budget → Turned now (drop at bytes) did after
+  next-record : {did : Did} {after : Session} {next : ℕ} → taken < budget → Turned now lost (drop at bytes) did after next
       → walk-on budget start bytes
       ≡ ahead taken at (did-by did now after (λ s. walk-on (budget - (taken + 1)) s (drop record-size (drop at bytes))))
-  next-record {did} {after} left h =
+  next-record {did} {after} {next} left h =
       g .same
       ∙ ap (λ (b : ℕ). ahead taken at (walk-on b now (drop at bytes))) one-left
       ∙ ap (ahead taken at) (shown (budget - (taken + 1)) ∙ h .leads (λ s. walk-on (budget - (taken + 1)) s (drop record-size (drop at bytes))))
@@ -61,24 +66,30 @@ module _ {budget taken at : ℕ} {start now : Session} {bytes : List ℕ} (g : G
       shown : (b : ℕ) → walk-on (suc b) now (drop at bytes) ≡ walked-by (one-of now (drop at bytes)) now (λ s. walk-on b s (drop record-size (drop at bytes)))
       shown b = unfold walk-on in refl
 
-  pub going-took : (after : Session) → taken < budget → Turned now (drop at bytes) Took after → Going budget (taken + 1) (at + record-size) start after bytes
-  going-took after left h =
+  pub going-took : (after : Session) (next : ℕ) → taken < budget → Turned now lost (drop at bytes) Took after next
+      → Going budget (taken + 1) (at + record-size) start after next bytes
+  going-took after next left h =
       record {
         within = omega arith;
-        inside = omega (arith, h .leaves, length-drop at bytes, g .inside);
+        inside = omega (arith, h .leaves .0, length-drop at bytes, g .inside);
         ready = h .ready;
         same =
             next-record left h
             ∙ ap (ahead taken at) shown
             ∙ one-ahead (walk-on (budget - (taken + 1)) after (drop record-size (drop at bytes)))
             ∙ ap (λ (l : List ℕ). ahead (taken + 1) (at + record-size) (walk-on (budget - (taken + 1)) after l)) (drop-drop record-size at bytes);
+        spaced = omega (arith, g .spaced);
+        number =
+            h .leaves .1
+            ∙ ap₂ (λ (n k : ℕ). lost-with n (drop k bytes)) (g .number) (g .spaced)
+            ∙ last-next 0 taken bytes;
       }
     where
       shown : did-by Took now after (λ s. walk-on (budget - (taken + 1)) s (drop record-size (drop at bytes)))
           ≡ one-more (walk-on (budget - (taken + 1)) after (drop record-size (drop at bytes)))
       shown = unfold did-by in refl
 
-      one-ahead : (w : Walked) → ahead taken at (one-more w) ≡ ahead (taken + 1) (at + record-size) w
+      one-ahead : (w : Walk) → ahead taken at (one-more w) ≡ ahead (taken + 1) (at + record-size) w
       one-ahead w =
           let t : taken + suc (w .taken) ≡ taken + 1 + w .taken = omega arith in
           let r : at + (record-size + w .read) ≡ at + record-size + w .read = omega arith in
@@ -90,61 +101,67 @@ module _ {budget taken at : ℕ} {start now : Session} {bytes : List ℕ} (g : G
       let t : taken + 0 ≡ taken = omega arith in
       λ i. record { taken = t i; stop = stop; read = at + read; session = sym e i }
 
-  pub going-ended : (after : Session) → taken < budget → Turned now (drop at bytes) Ended after → HasGone budget start bytes taken End (at + record-size) after
-  going-ended after left h =
+  pub going-ended : (after : Session) (next : ℕ) → taken < budget → Turned now lost (drop at bytes) Ended after next
+      → HasGone budget start bytes taken End (at + record-size) lost after
+  going-ended after next left h =
       record {
         walked = next-record left h ∙ ap (ahead taken at) shown ∙ stopped-ahead End record-size after (h .leaves .0);
         within = omega (arith, h .leaves .1, length-drop at bytes, g .inside);
+        number = g .number;
         ready = h .ready;
       }
     where
       shown : did-by Ended now after (λ s. walk-on (budget - (taken + 1)) s (drop record-size (drop at bytes))) ≡ stopped now End record-size
       shown = unfold did-by in refl
 
-  pub going-refused : (n : ℕ) (after : Session) → taken < budget → Turned now (drop at bytes) (Not n) after → HasGone budget start bytes taken (Refused n) at after
-  going-refused n after left h =
+  pub going-refused : (n : ℕ) (after : Session) (next : ℕ) → taken < budget → Turned now lost (drop at bytes) (Not n) after next
+      → HasGone budget start bytes taken (Refused n) at lost after
+  going-refused n after next left h =
       record {
         walked = next-record left h ∙ ap (ahead taken at) shown ∙ stopped-ahead (Refused n) 0 after (h .leaves) ∙ plain;
         within = g .inside;
+        number = g .number;
         ready = h .ready;
       }
     where
       shown : did-by (Not n) now after (λ s. walk-on (budget - (taken + 1)) s (drop record-size (drop at bytes))) ≡ stopped now (Refused n) 0
       shown = unfold did-by in refl
 
-      plain : _≡_ {A = Walked} (record { taken = taken; stop = Refused n; read = at + 0; session = after }) (record { taken = taken; stop = Refused n; read = at; session = after })
+      plain : _≡_ {A = Walk} (record { taken = taken; stop = Refused n; read = at + 0; session = after }) (record { taken = taken; stop = Refused n; read = at; session = after })
       plain = let e : at + 0 ≡ at = omega arith in λ i. record { taken = taken; stop = Refused n; read = e i; session = after }
 
-  pub going-done : budget ≤ taken → HasGone budget start bytes taken Budget at now
+  pub going-done : budget ≤ taken → HasGone budget start bytes taken Budget at lost now
   going-done h =
       let e : budget - taken ≡ 0 = omega arith in
       record {
         walked =
             g .same ∙ ap (λ (b : ℕ). ahead taken at (walk-on b now (drop at bytes))) e ∙ ap (ahead taken at) shown ∙ stopped-ahead Budget 0 now refl ∙ plain;
         within = g .inside;
+        number = g .number;
         ready = g .ready;
       }
     where
       shown : walk-on 0 now (drop at bytes) ≡ stopped now Budget 0
       shown = unfold walk-on in refl
 
-      plain : _≡_ {A = Walked} (record { taken = taken; stop = Budget; read = at + 0; session = now }) (record { taken = taken; stop = Budget; read = at; session = now })
+      plain : _≡_ {A = Walk} (record { taken = taken; stop = Budget; read = at + 0; session = now }) (record { taken = taken; stop = Budget; read = at; session = now })
       plain = let e : at + 0 ≡ at = omega arith in λ i. record { taken = taken; stop = Budget; read = e i; session = now }
 
 -- the part of the trace that a record is read from, as the code lends it
-pub turned-part : {s after : Session} {did did′ : Did} (bytes : List ℕ) (at : ℕ) → did ≡ did′
-    → Turned s (take (length bytes - at) (drop at bytes)) did after → Turned s (drop at bytes) did′ after
-turned-part {s} {after} {did} bytes at e h =
-    subst (λ (d : Did). Turned s (drop at bytes) d after) e
-    (subst (λ (l : List ℕ). Turned s l did after) (take-all (length bytes - at) (drop at bytes) (omega (arith, length-drop at bytes))) h)
+pub turned-part : {s after : Session} {lost next : ℕ} {did did′ : Did} (bytes : List ℕ) (at : ℕ) → did ≡ did′
+    → Turned s lost (take (length bytes - at) (drop at bytes)) did after next → Turned s lost (drop at bytes) did′ after next
+turned-part {s} {after} {lost} {next} {did} bytes at e h =
+    subst (λ (d : Did). Turned s lost (drop at bytes) d after next) e
+    (subst (λ (l : List ℕ). Turned s lost l did after next) (take-all (length bytes - at) (drop at bytes) (omega (arith, length-drop at bytes))) h)
 
 -- ---- the public walk
 
 -- refusal 10 first, whatever the budget
-pub walk-refused : (s : Session) (bytes : List ℕ) (budget : ℕ) → out-of-range s ≡ true → walk-of s bytes budget ≡ in-numbers (stopped s (Refused 10) 0)
-unfolding walk-of
-walk-refused s bytes budget e = ap (λ (t : Bool). in-numbers (cond t (stopped s (Refused 10) 0) (walk-on (budget-of budget) s bytes))) e
+pub walk-refused : (s : Session) (bytes : List ℕ) (budget : ℕ) → out-of-range s ≡ true
+    → walk-of s bytes budget ≡ record { taken = 0; stop = 2; refusal = 10; read = 0; lost = 0; session = s }
+unfolding walk-of last-lost
+walk-refused s bytes budget e = ap (λ (t : Bool). answered bytes (cond t (stopped s (Refused 10) 0) (walk-on (budget-of budget) s bytes))) e
 
-pub walk-taken : (s : Session) (bytes : List ℕ) (budget : ℕ) → out-of-range s ≡ false → walk-of s bytes budget ≡ in-numbers (walk-on (budget-of budget) s bytes)
+pub walk-taken : (s : Session) (bytes : List ℕ) (budget : ℕ) → out-of-range s ≡ false → walk-of s bytes budget ≡ answered bytes (walk-on (budget-of budget) s bytes)
 unfolding walk-of
-walk-taken s bytes budget e = ap (λ (t : Bool). in-numbers (cond t (stopped s (Refused 10) 0) (walk-on (budget-of budget) s bytes))) e
+walk-taken s bytes budget e = ap (λ (t : Bool). answered bytes (cond t (stopped s (Refused 10) 0) (walk-on (budget-of budget) s bytes))) e

@@ -1,3 +1,4 @@
+pub mod Lost
 pub mod Steps
 pub mod Dids
 pub mod Going

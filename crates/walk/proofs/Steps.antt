@@ -17,8 +17,7 @@ use Rattle.session_record.specs.Record.{latest-of, out-of-range}
 use Rattle.session_record.specs.Step.{stepped-of, stepped-through}
 use Rattle.walk.specs.declared.Stop.{Stop}
 use Rattle.walk.specs.declared.Stop.the-variants.{Budget, End, Refused}
-use Rattle.walk.specs.declared.Walked.{Walked}
-use Rattle.walk.specs.Walk.{One, one-call, one-read, one-of, stopped, one-more, walked-by, walk-on, in-numbers, budget-of, walk-of, rest-start}
+use Rattle.walk.specs.Walk.{Walk, One, one-call, one-read, one-of, stopped, one-more, walked-by, walk-on, answered, budget-of, walk-of, rest-start}
 
 -- ---- single steps
 
@@ -57,13 +56,13 @@ one-step s bytes = go (read-as (record-answer bytes (latest-of s)))
     go (ReadAs.refused n) = unfold one-read in tt
 
 -- The number taken is the number of single steps, at most the budget, and the session is theirs.
-pub record Exactly (budget : ℕ) (s : Session) (w : Walked) : Type 0 where
+pub record Exactly (budget : ℕ) (s : Session) (w : Walk) : Type 0 where
   pub calls : List Call
   pub steps : Steps s calls (w .session)
   pub counted : w .taken ≡ length calls
   pub within : w .taken ≤ budget
 
-by-steps : (budget : ℕ) (s : Session) (o : One) → StepOf s o → (f : Session → Walked) → ((after : Session) → Exactly budget after (f after))
+by-steps : (budget : ℕ) (s : Session) (o : One) → StepOf s o → (f : Session → Walk) → ((after : Session) → Exactly budget after (f after))
     → Exactly (suc budget) s (walked-by o s f)
 unfolding walked-by
 by-steps budget s One.ended h f k = record { calls = []; steps = none; counted = refl; within = omega arith }
@@ -82,7 +81,7 @@ walk-exactly (suc budget) s bytes =
 -- ---- two walks
 
 -- the first walk's numbers before the second's
-abbrev pub then : Walked → Walked → Walked
+abbrev pub then : Walk → Walk → Walk
 then v w = record { taken = v .taken + w .taken; stop = w .stop; read = v .read + w .read; session = w .session }
 
 -- How the second walk stops after a first that stopped so.
@@ -91,17 +90,17 @@ GoesOn Budget second = Unit {0}
 GoesOn End second = ⊥
 GoesOn (Refused n) second = 1 ≤ second
 
-one-more-then : (v w : Walked) → one-more (then v w) ≡ then (one-more v) w
+one-more-then : (v w : Walk) → one-more (then v w) ≡ then (one-more v) w
 one-more-then v w =
     let t : suc (v .taken + w .taken) ≡ suc (v .taken) + w .taken = omega arith in
     let r : record-size + (v .read + w .read) ≡ record-size + v .read + w .read = omega arith in
     λ i. record { taken = t i; stop = w .stop; read = r i; session = w .session }
 
-refused-is : (n : ℕ) (s : Session) (f : Session → Walked) → walked-by (One.refused n) s f ≡ stopped s (Refused n) 0
+refused-is : (n : ℕ) (s : Session) (f : Session → Walk) → walked-by (One.refused n) s f ≡ stopped s (Refused n) 0
 unfolding walked-by
 refused-is n s f = refl
 
-nothing-then : (s : Session) (stop : Stop) (w : Walked) → w ≡ then (stopped s stop 0) w
+nothing-then : (s : Session) (stop : Stop) (w : Walk) → w ≡ then (stopped s stop 0) w
 nothing-then s stop w =
     let t : w .taken ≡ 0 + w .taken = omega arith in
     let r : w .read ≡ 0 + w .read = omega arith in
@@ -143,6 +142,22 @@ two-walks (suc b₁) b₂ s bytes g =
         ∙ one-more-then (walk-on b₁ after (drop record-size bytes)) _
         ∙ ap (λ (l : List ℕ). then (one-more (walk-on b₁ after (drop record-size bytes))) (walk-on b₂ (walk-on b₁ after (drop record-size bytes) .session) l))
         (drop-drop (walk-on b₁ after (drop record-size bytes) .read) record-size bytes))
+
+-- A walk that another can go on from has read the records taken and no more.
+pub spaced : (budget second : ℕ) (s : Session) (bytes : List ℕ) → GoesOn (walk-on budget s bytes .stop) second
+    → walk-on budget s bytes .read ≡ record-size * walk-on budget s bytes .taken
+unfolding walk-on
+spaced zero second s bytes g = refl
+spaced (suc budget) second s bytes g = go (one-of s bytes) g (λ after. spaced budget second after (drop record-size bytes))
+  where
+    on : Session → Walk
+    on after = walk-on budget after (drop record-size bytes)
+
+    go : (o : One) → GoesOn (walked-by o s on .stop) second → ((after : Session) → GoesOn (on after .stop) second → on after .read ≡ record-size * on after .taken)
+        → walked-by o s on .read ≡ record-size * walked-by o s on .taken
+    go One.ended k ih = absurd (unfold walked-by in k)
+    go (One.refused n) k ih = unfold walked-by in refl
+    go (One.took c after) k ih = unfold walked-by in (omega (arith, ih after (unfold walked-by in k)))
 
 -- ---- a budget of as many records as there are bytes
 
@@ -207,8 +222,8 @@ pub rest-behind : (s : Session) (bytes : List ℕ) (budget : ℕ) → rest-start
 unfolding walk-of
 rest-behind s bytes budget = le-start (out-of-range s)
   where
-    le-start : (b : Bool) → rest-start (length bytes) (in-numbers (cond b (stopped s (Refused 10) 0) (walk-on (budget-of budget) s bytes)) .read)
-        ≡ in-numbers (cond b (stopped s (Refused 10) 0) (walk-on (budget-of budget) s bytes)) .read
+    le-start : (b : Bool) → rest-start (length bytes) (answered bytes (cond b (stopped s (Refused 10) 0) (walk-on (budget-of budget) s bytes)) .read)
+        ≡ answered bytes (cond b (stopped s (Refused 10) 0) (walk-on (budget-of budget) s bytes)) .read
     le-start true = ap (λ (t : Bool). cond t 0 0) (le-ltb (length bytes) 0 (omega arith))
     le-start false =
         ap (λ (t : Bool). cond t 0 (walk-on (budget-of budget) s bytes .read))

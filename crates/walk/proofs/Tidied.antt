@@ -15,16 +15,15 @@ use Rattle.session_record.specs.Step.{refusal-of, stepped-of}
 use Rattle.session_record.specs.Lent.{tidied}
 use Rattle.session_record.proofs.Steps.{answer-refusal}
 use Rattle.session_record.proofs.Tidy.{tidied-refusal, tidied-taken}
-use Rattle.walk.specs.declared.Walked.{Walked}
-use Rattle.walk.specs.Walk.{one-call, one-read, one-more, walked-by, walk-on}
+use Rattle.walk.specs.Walk.{Walk, one-call, one-read, one-more, walked-by, walk-on}
 
 module _ (s : Session) (fits : out-of-range s ≡ false) where
   -- Two walks that are the same, or of which each gives back the session it was given.
-  pub data Same : Walked → Walked → Type 0 where
-    took : {v w : Walked} → v ≡ w → (w .taken ≡ 0 → ⊥) → Same v w
-    none : {v w : Walked} → w .taken ≡ 0 → v ≡ record { taken = 0; stop = w .stop; read = w .read; session = s } → Same v w
+  pub data Same : Walk → Walk → Type 0 where
+    took : {v w : Walk} → v ≡ w → (w .taken ≡ 0 → ⊥) → Same v w
+    none : {v w : Walk} → w .taken ≡ 0 → v ≡ record { taken = 0; stop = w .stop; read = w .read; session = s } → Same v w
 
-  same-call : (c : Call) (n : ℕ) → refusal-of s c ≡ n → (f : Session → Walked) → Same (walked-by (one-call s c n) s f) (walked-by (one-call (tidied s) c n) (tidied s) f)
+  same-call : (c : Call) (n : ℕ) → refusal-of s c ≡ n → (f : Session → Walk) → Same (walked-by (one-call s c n) s f) (walked-by (one-call (tidied s) c n) (tidied s) f)
   unfolding one-call walked-by
   same-call c zero e f = took (ap (λ (r : Stepped). one-more (f (r .session))) (sym (tidied-taken s fits c e))) (λ z. some z)
     where
@@ -37,7 +36,7 @@ module _ (s : Session) (fits : out-of-range s ≡ false) where
   same-walk zero bytes = none refl refl
   same-walk (suc budget) bytes = go (read-as (record-answer bytes (latest-of s)))
     where
-      f : Session → Walked
+      f : Session → Walk
       f after = walk-on budget after (drop record-size bytes)
 
       go : (x : ReadAs) → Same (walked-by (one-read s x) s f) (walked-by (one-read (tidied s) x) (tidied s) f)

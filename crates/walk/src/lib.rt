@@ -1,5 +1,6 @@
 // The walk: records of a trace, one after the other, on a session.
 ghost use mathlib.Core.Path.{_≡_};
+ghost use mathlib.Core.Bool.{cond};
 ghost use lib.ListN.{length};
 ghost use Rattle.fields.specs.Rest.{Rest};
 ghost use Rattle.table.specs.Table.{IsTable};
@@ -33,6 +34,8 @@ pub struct Walked {
     pub stop: Stop,
     // The number of bytes read: those of the records taken, and of the end.
     pub read: usize,
+    // The last taken gap's number of lost lines, 0 if none was taken.
+    pub lost: u8,
     pub session: Session,
 }
 
@@ -47,6 +50,8 @@ pub enum Did {
 pub struct Turn {
     pub did: Did,
     pub status: Status,
+    // The last gap's number of lost lines, if the record was taken.
+    pub lost: u8,
 }
 
 // A walk on lent arrays: what it did, and the numbers beside the arrays after it.
@@ -54,6 +59,7 @@ pub struct Went {
     pub taken: usize,
     pub stop: Stop,
     pub read: usize,
+    pub lost: u8,
     pub status: Status,
 }
 
@@ -67,14 +73,26 @@ fn outcome(refusal: u64) -> Did
     Did::Not(refusal)
 }
 
-fn after(r: Told) -> Turn
-    ensures { λ t. ⌜ t ≡ record { did = did-of (r .answer .refusal); status = r .status } ⌝ }
+// The last gap's number of lost lines: of this record if it is a gap, else the one before.
+fn last_lost(gap: bool, number: u8, before: u8) -> u8
+    ensures { λ r. ⌜ r ≡ cond gap number before ⌝ }
+{
+    if gap {
+        return number;
+    }
+    before
+}
+
+// What a call did; `number` is in the record's 6 bits of action, and `before` the last gap's number so far.
+fn after(r: Told, gap: bool, number: u8, before: u8) -> Turn
+    ensures { λ t. ⌜ t ≡ record { did = did-of (r .answer .refusal); status = r .status; lost = cond gap number before } ⌝ }
 {
     let answer = r.answer;
     let status = r.status;
     Turn {
         did: outcome(answer.refusal),
         status: status,
+        lost: last_lost(gap, number, before),
     }
 }
 
@@ -87,17 +105,18 @@ fn one_record(
     masks: &mut [u64; 65],
     marks: &mut [u64; 65],
     status: Status,
+    lost: u8,
     bytes: &[u8],
 ) -> Turn
     requires { ⌜ Ready (in-arrays p (now held) (now acts) (now masks) (now marks) status) × IsTable p (now table) ⌝ }
     ensures { λ r. ⌜ Turned (in-arrays p (now (held .entry)) (now (acts .entry)) (now (masks .entry)) (now (marks .entry)) status)
-        (now (bytes .entry)) (r .did)
-        (in-arrays p (now (held .exit)) (now (acts .exit)) (now (masks .exit)) (now (marks .exit)) (r .status)) ⌝ }
+        lost (now (bytes .entry)) (r .did)
+        (in-arrays p (now (held .exit)) (now (acts .exit)) (now (masks .exit)) (now (marks .exit)) (r .status)) (r .lost) ⌝ }
 {
     let record = record_form::read_record(bytes, status.latest);
     match record {
         RecordRead::Input(action, stamp) => {
-            after(in_place::line(
+            let told = in_place::line(
                 p,
                 table,
                 held,
@@ -108,10 +127,11 @@ fn one_record(
                 false,
                 action,
                 stamp,
-            ))
+            );
+            after(told, false, action, lost)
         }
         RecordRead::Output(action, stamp) => {
-            after(in_place::line(
+            let told = in_place::line(
                 p,
                 table,
                 held,
@@ -122,17 +142,35 @@ fn one_record(
                 true,
                 action,
                 stamp,
-            ))
+            );
+            after(told, false, action, lost)
         }
-        RecordRead::Gap(stamp) => after(in_place::mark(p, held, acts, masks, marks, status, stamp)),
+        RecordRead::Gap(number, stamp) => {
+            let told = in_place::mark(p, held, acts, masks, marks, status, number, stamp);
+            after(told, true, number, lost)
+        }
         RecordRead::End(_) => Turn {
             did: Did::Ended,
             status: status,
+            lost: lost,
         },
         RecordRead::Refused(number) => Turn {
             did: Did::Not(number),
             status: status,
+            lost: lost,
         },
+    }
+}
+
+fn gone(taken: usize, stop: Stop, read: usize, lost: u8, status: Status) -> Went
+    ensures { λ r. ⌜ r ≡ record { taken = taken; stop = stop; read = read; lost = lost; status = status } ⌝ }
+{
+    Went {
+        taken: taken,
+        stop: stop,
+        read: read,
+        lost: lost,
+        status: status,
     }
 }
 
@@ -150,46 +188,33 @@ pub fn records(
 ) -> Went
     requires { ⌜ Ready (in-arrays p (now held) (now acts) (now masks) (now marks) status) × IsTable p (now table) ⌝ }
     ensures { λ r. ⌜ HasGone budget (in-arrays p (now (held .entry)) (now (acts .entry)) (now (masks .entry)) (now (marks .entry)) status)
-        (now (trace .entry)) (r .taken) (r .stop) (r .read)
+        (now (trace .entry)) (r .taken) (r .stop) (r .read) (r .lost)
         (in-arrays p (now (held .exit)) (now (acts .exit)) (now (masks .exit)) (now (marks .exit)) (r .status)) ⌝ }
 {
     let mut taken = 0;
     let mut at = 0;
     let mut here = status;
+    let mut lost = 0;
     while taken < budget {
-        let t = one_record(p, table, held, acts, masks, marks, here, &trace[at..]);
+        let t = one_record(p, table, held, acts, masks, marks, here, lost, &trace[at..]);
         let did = t.did;
         let next = t.status;
         match did {
             Did::Took => {
                 here = next;
+                lost = t.lost;
                 at += RECORD_SIZE;
                 taken += 1;
             }
             Did::Ended => {
-                return Went {
-                    taken: taken,
-                    stop: Stop::End,
-                    read: at + RECORD_SIZE,
-                    status: next,
-                };
+                return gone(taken, Stop::End, at + RECORD_SIZE, lost, next);
             }
             Did::Not(number) => {
-                return Went {
-                    taken: taken,
-                    stop: Stop::Refused(number),
-                    read: at,
-                    status: next,
-                };
+                return gone(taken, Stop::Refused(number), at, lost, next);
             }
         }
     }
-    Went {
-        taken: taken,
-        stop: Stop::Budget,
-        read: at,
-        status: here,
-    }
+    gone(taken, Stop::Budget, at, lost, here)
 }
 
 fn limited(budget: usize) -> usize
@@ -210,6 +235,7 @@ pub fn walk(s: Session, trace: &[u8], budget: usize) -> Walked
             taken: 0,
             stop: Stop::Refused(10),
             read: 0,
+            lost: 0,
             session: s,
         };
     }
@@ -240,6 +266,7 @@ pub fn walk(s: Session, trace: &[u8], budget: usize) -> Walked
             taken: 0,
             stop: stop,
             read: r.read,
+            lost: 0,
             session: s,
         };
     }
@@ -247,6 +274,7 @@ pub fn walk(s: Session, trace: &[u8], budget: usize) -> Walked
         taken: r.taken,
         stop: stop,
         read: r.read,
+        lost: r.lost,
         session: session_record::made(p, held, acts, masks, marks, r.status),
     }
 }

@@ -56,10 +56,10 @@ returns c =
     let a = b .args in
     let read = c .before .before .before .before .before .before .before .before .before .read-record in
     let last = c .before .line .last .1 .1 in
-    subst (λ (t : Turn). Turned (entry b) (now (a .bytes)) (t .did) (in-arrays (a .p) (last .0) (last .1 .0) (last .1 .1 .0) (last .1 .1 .1 .0) (t .status)))
+    subst (λ (t : Turn). Turned (entry b) (a .lost) (now (a .bytes)) (t .did) (in-arrays (a .p) (last .0) (last .1 .0) (last .1 .1 .0) (last .1 .1 .1 .0) (t .status)) (t .lost))
     (sym (c .after .ensures))
     (call-turned (entry b) (now (a .bytes)) (read .result) (read .ensures) _ _
-    (c .before .before .before .before .before .before .before .«record» .given .1) refl refl _ _ (c .before .line .ensures))
+    (c .before .before .before .before .before .before .before .«record» .given .1) refl refl _ _ (c .before .line .ensures) _ _ refl)
 
 returns-2 : tie.Need-returns-2
 returns-2 c =
@@ -67,10 +67,10 @@ returns-2 c =
     let a = b .args in
     let read = c .before .before .before .before .before .before .before .before .before .read-record in
     let last = c .before .line2 .last .1 .1 in
-    subst (λ (t : Turn). Turned (entry b) (now (a .bytes)) (t .did) (in-arrays (a .p) (last .0) (last .1 .0) (last .1 .1 .0) (last .1 .1 .1 .0) (t .status)))
+    subst (λ (t : Turn). Turned (entry b) (a .lost) (now (a .bytes)) (t .did) (in-arrays (a .p) (last .0) (last .1 .0) (last .1 .1 .0) (last .1 .1 .1 .0) (t .status)) (t .lost))
     (sym (c .after2 .ensures))
     (call-turned (entry b) (now (a .bytes)) (read .result) (read .ensures) _ _
-    (c .before .before .before .before .before .before .before .record2 .given .1) refl refl _ _ (c .before .line2 .ensures))
+    (c .before .before .before .before .before .before .before .record2 .given .1) refl refl _ _ (c .before .line2 .ensures) _ _ refl)
 
 returns-3 : tie.Need-returns-3
 returns-3 c =
@@ -78,22 +78,22 @@ returns-3 c =
     let a = b .args in
     let read = c .before .before .before .before .before .before .before .before .before .read-record in
     let last = c .before .mark .last .1 in
-    subst (λ (t : Turn). Turned (entry b) (now (a .bytes)) (t .did) (in-arrays (a .p) (last .0) (last .1 .0) (last .1 .1 .0) (last .1 .1 .1 .0) (t .status)))
+    subst (λ (t : Turn). Turned (entry b) (a .lost) (now (a .bytes)) (t .did) (in-arrays (a .p) (last .0) (last .1 .0) (last .1 .1 .0) (last .1 .1 .1 .0) (t .status)) (t .lost))
     (sym (c .after3 .ensures))
     (call-turned (entry b) (now (a .bytes)) (read .result) (read .ensures) _ _
-    (c .before .before .before .before .before .before .before .record3 .given .1) refl refl _ _ (c .before .mark .ensures))
+    (c .before .before .before .before .before .before .before .record3 .given .1) refl refl _ _ (c .before .mark .ensures) _ _ refl)
 
 returns-4 : tie.Need-returns-4
 returns-4 c =
     let b = c .before .before .before .before in
     let read = c .before .before .read-record in
-    end-turned (entry b) (now (b .args .bytes)) (read .result) (read .ensures) (b .pre .0) _ (c .enum-told .given .1)
+    end-turned (entry b) (now (b .args .bytes)) (read .result) (read .ensures) (b .pre .0) _ (c .enum-told .given .1) _ _
 
 returns-5 : tie.Need-returns-5
 returns-5 c =
     let b = c .before .before .before .before .before in
     let read = c .before .before .before .read-record in
-    refused-turned (entry b) (now (b .args .bytes)) (read .result) (read .ensures) (b .pre .0) _ (c .before .record4 .given .1)
+    refused-turned (entry b) (now (b .args .bytes)) (read .result) (read .ensures) (b .pre .0) _ (c .before .record4 .given .1) _ _
 
 pub one-record-spec : {M : Type 1} → statement M
 one-record-spec =

@@ -1,6 +1,6 @@
 -- `walk::walk` meets its contract: refusal 10, or the records on its arrays, tidied.
 use Prim.Native.Nat.{ℕ}
-use mathlib.Core.Path.{_≡_, sym, ap, subst, _∙_}
+use mathlib.Core.Path.{_≡_, sym, ap, ap₂, subst, _∙_}
 use mathlib.Core.Bool.{false}
 use mathlib.Core.List.{List}
 use Rattle.session_record.specs.declared.Session.{Session}
@@ -8,8 +8,7 @@ use Rattle.session_record.specs.Record.{out-of-range}
 use Rattle.session_record.specs.Lent.{in-arrays, tidied, Ready}
 use Rattle.session_record.proofs.Range.{ranged}
 use Rattle.session_record.proofs.Ready.{tidied-ready}
-use Rattle.walk.specs.declared.Walked.{Walked}
-use Rattle.walk.specs.Walk.{Walking, walk-on, in-numbers, budget-of, walk-of}
+use Rattle.walk.specs.Walk.{Walk, Walking, walk-on, last-lost, in-numbers, answered, budget-of, walk-of}
 use Rattle.walk.proofs.Going.{walk-refused, walk-taken}
 use Rattle.walk.proofs.Tidied.{Same, took, none, same-walk}
 use borrow.Author.Needs.{needs}
@@ -37,7 +36,7 @@ budget j = passed j .before .before .before .args .budget
 abbrev start : tie.After-records → tie.After-tidy
 start k = k .before .before .before .before .before .before .before
 
-abbrev lent : tie.After-records → Walked
+abbrev lent : tie.After-records → Walk
 lent k =
     let r = k .records in
     let last = r .last .1 .1 in
@@ -69,26 +68,27 @@ module _ (k : tie.After-records) where
   abbrev fits : out-of-range s ≡ false
   fits = fit (passed (start k))
 
-  abbrev on : Walked
+  abbrev on : Walk
   on = walk-on most s bytes
 
   abbrev promised : Walking
   promised = walk-of s bytes (budget (start k))
 
-  is-on : in-numbers on ≡ promised
+  is-on : answered bytes on ≡ promised
   is-on = sym (walk-taken s bytes (budget (start k)) fits)
 
-  by-same : (w : Walked) → Same s fits on w
-      → (w .taken ≡ 0 → in-numbers (record { taken = 0; stop = w .stop; read = w .read; session = s }) ≡ promised)
-      × ((w .taken ≡ 0 → ⊥) → in-numbers w ≡ promised)
-  by-same w (took q h) = ((λ z. absurd (h z)), (λ n. ap in-numbers (sym q) ∙ is-on))
-  by-same w (none z q) = ((λ y. ap in-numbers (sym q) ∙ is-on), (λ n. absurd (n z)))
+  by-same : (w : Walk) → Same s fits on w
+      → (w .taken ≡ 0 → answered bytes (record { taken = 0; stop = w .stop; read = w .read; session = s }) ≡ promised)
+      × ((w .taken ≡ 0 → ⊥) → answered bytes w ≡ promised)
+  by-same w (took q h) = ((λ z. absurd (h z)), (λ n. ap (answered bytes) (sym q) ∙ is-on))
+  by-same w (none z q) = ((λ y. ap (answered bytes) (sym q) ∙ is-on), (λ n. absurd (n z)))
 
   unchanged : k .records .result .taken ≡ 0 → walk-on most (tidied s) bytes ≡ lent k
-      → in-numbers (record { taken = 0; stop = k .records .result .stop; read = k .records .result .read; session = s }) ≡ promised
+      → in-numbers (record { taken = 0; stop = k .records .result .stop; read = k .records .result .read; lost = 0; session = s }) ≡ promised
+  unfolding last-lost
   unchanged z e = by-same (lent k) (subst (Same s fits on) e (same-walk s fits most bytes)) .0 z
 
-  changed : (k .records .result .taken ≡ 0 → ⊥) → walk-on most (tidied s) bytes ≡ lent k → in-numbers (lent k) ≡ promised
+  changed : (k .records .result .taken ≡ 0 → ⊥) → walk-on most (tidied s) bytes ≡ lent k → answered bytes (lent k) ≡ promised
   changed z e = by-same (lent k) (subst (Same s fits on) e (same-walk s fits most bytes)) .1 z
 
 unfit-requires : tie.Need-unfit-requires
@@ -131,7 +131,7 @@ returns-3 : tie.Need-returns-3
 returns-3 c =
     let k = c .before .before .before in
     let r = k .records .result in
-    ap (λ (x : Session). in-numbers (record { taken = r .taken; stop = r .stop; read = r .read; session = x })) (c .made .ensures)
+    ap₂ (λ (n : ℕ) (x : Session). in-numbers (record { taken = r .taken; stop = r .stop; read = r .read; lost = n; session = x })) (k .records .ensures .number) (c .made .ensures)
     ∙ changed k (c .before .if2 .left) (walked k)
 
 pub walk-spec : {M : Type 1} → statement M
