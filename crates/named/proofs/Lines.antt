@@ -75,13 +75,13 @@ pub record Shown (site release : List ℕ) (r : RecordRead) (number : ℕ) (c : 
 
 shown-entry : (site release : List ℕ) (number : ℕ) (after : Session) (r : RecordRead) (c : Call) → case-as r ≡ ReadAs.call c → Shown site release r number c after
 shown-entry site release number after (Input a t) c e =
-    subst (λ (x : Call). Shown site release (Input a t) number x after) (ap (call-or (mark-at 0)) e)
+    subst (λ (x : Call). Shown site release (Input a t) number x after) (ap (call-or (mark-at 0 0)) e)
     (unfold call-text named-call-text kind-as action-as name-as in (record { stamp = t; plain = refl; named = refl }))
 shown-entry site release number after (Output a t) c e =
-    subst (λ (x : Call). Shown site release (Output a t) number x after) (ap (call-or (mark-at 0)) e)
+    subst (λ (x : Call). Shown site release (Output a t) number x after) (ap (call-or (mark-at 0 0)) e)
     (unfold call-text named-call-text kind-as action-as name-as in (record { stamp = t; plain = refl; named = refl }))
-shown-entry site release number after (Gap t) c e =
-    subst (λ (x : Call). Shown site release (Gap t) number x after) (ap (call-or (mark-at 0)) e)
+shown-entry site release number after (Gap n t) c e =
+    subst (λ (x : Call). Shown site release (Gap n t) number x after) (ap (call-or (mark-at 0 0)) e)
     (unfold call-text named-call-text kind-as action-as name-as in (record { stamp = t; plain = refl; named = refl }))
 shown-entry site release number after (End t) c e = absurd (true≢false (sym (ap is-call e)))
 shown-entry site release number after (Refused n) c e = absurd (true≢false (sym (ap is-call e)))
@@ -96,7 +96,7 @@ pub name-as-short : (site release : List ℕ) (r : RecordRead) → length (name-
 unfolding name-as
 name-as-short site release (Input a t) = name-short site release false a
 name-as-short site release (Output a t) = name-short site release true a
-name-as-short site release (Gap t) = omega arith
+name-as-short site release (Gap n t) = omega arith
 name-as-short site release (End t) = omega arith
 name-as-short site release (Refused n) = omega arith
 

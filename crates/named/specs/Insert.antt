@@ -14,25 +14,25 @@ use Rattle.printout.specs.declared.Text.{Text}
 use Rattle.printout.specs.Text.{text-of}
 use Rattle.printed.specs.Printed.{call-text}
 
--- What a line shows of the record that was read: its kind, its action and the name.
+-- What a line shows of the record that was read: its kind, its action, of a gap its number of lost lines, and the name.
 unfoldable pub kind-as : RecordRead → ℕ
 kind-as (Input action stamp) = input
 kind-as (Output action stamp) = output
-kind-as (Gap stamp) = gap
+kind-as (Gap lost stamp) = gap
 kind-as (End stamp) = gap
 kind-as (Refused number) = gap
 
 unfoldable pub action-as : RecordRead → ℕ
 action-as (Input action stamp) = action
 action-as (Output action stamp) = action
-action-as (Gap stamp) = 0
+action-as (Gap lost stamp) = lost
 action-as (End stamp) = 0
 action-as (Refused number) = 0
 
 unfoldable pub name-as : List ℕ → List ℕ → RecordRead → List ℕ
 name-as site release (Input action stamp) = name-of site release false action
 name-as site release (Output action stamp) = name-of site release true action
-name-as site release (Gap stamp) = []
+name-as site release (Gap lost stamp) = []
 name-as site release (End stamp) = []
 name-as site release (Refused number) = []
 

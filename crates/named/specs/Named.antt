@@ -22,11 +22,11 @@ abbrev pub names-of : List ℕ → List ℕ → Action → List ℕ
 names-of site release (Action.input k) = name-of site release false k
 names-of site release (Action.output k) = name-of site release true k
 
--- The line of a record that was taken as a call; a gap has no name.
+-- The line of a record that was taken as a call; a gap shows its number of lost lines in place of an action, and has no name.
 unfoldable pub named-call-text : (Action → List ℕ) → ℕ → Call → Session → List ℕ
 named-call-text names number (Call.line l) after =
     named-line-text number (kind-of (l .action)) (number-of (l .action)) (names (l .action)) (l .stamp) (standing after) (count-of after)
-named-call-text names number (Call.mark g) after = named-line-text number gap 0 [] (g .stamp) (standing after) (count-of after)
+named-call-text names number (Call.mark g) after = named-line-text number gap (g .lost) [] (g .stamp) (standing after) (count-of after)
 
 -- By what a record does to the session: the last line has no name and is as it was.
 unfoldable pub named-by-one : (Action → List ℕ) → ℕ → One → List ℕ

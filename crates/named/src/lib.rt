@@ -27,7 +27,7 @@ fn front_of(number: u64, read: RecordRead) -> Text
     match read {
         RecordRead::Input(action, _) => printout::front(number, 0, action),
         RecordRead::Output(action, _) => printout::front(number, 1, action),
-        RecordRead::Gap(_) => printout::front(number, 2, 0),
+        RecordRead::Gap(lost, _) => printout::front(number, 2, lost),
         RecordRead::End(_) => printout::front(number, 2, 0),
         RecordRead::Refused(_) => printout::front(number, 2, 0),
     }
@@ -40,7 +40,7 @@ fn name_of<'a>(site: &'a [u8], release: &'a [u8], read: RecordRead) -> &'a [u8]
     match read {
         RecordRead::Input(action, _) => names::name(site, release, false, action),
         RecordRead::Output(action, _) => names::name(site, release, true, action),
-        RecordRead::Gap(_) => &release[release.len()..],
+        RecordRead::Gap(_, _) => &release[release.len()..],
         RecordRead::End(_) => &release[release.len()..],
         RecordRead::Refused(_) => &release[release.len()..],
     }

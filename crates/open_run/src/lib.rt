@@ -3,7 +3,7 @@ ghost use Prim.Native.Nat.{ℕ, _+_, _^_, _<_};
 ghost use mathlib.Core.Bool.{Bool};
 ghost use mathlib.Core.List.{List, [], _∷_, _++_};
 ghost use Rattle.meaning.specs.Words.{Run};
-ghost use Rattle.meaning.specs.Calls.{Call};
+ghost use Rattle.meaning.specs.Calls.{Call, mark-at};
 ghost use Rattle.record_form.specs.ReadAs.{ReadAs, case-as};
 ghost use Rattle.table.specs.Table.{IsTable};
 ghost use Rattle.cuts.specs.Steps.{line-of};
@@ -113,16 +113,17 @@ fn mark(
     marks: &mut [u64; 65],
     status: Status,
     count: usize,
+    lost: u8,
     stamp: u64,
 ) -> Turn
     requires { ⌜ Ready (in-arrays p (now held) (now acts) (now masks) (now marks) status) ⌝ }
     ensures { λ r. ⌜ ((outputs : List Bool) (actions stamps : List ℕ)
         → Goes (in-arrays p (now (held .entry)) (now (acts .entry)) (now (masks .entry)) (now (marks .entry)) status)
-        (in-lines outputs actions stamps count) (ReadAs.call (Call.mark (record { stamp = stamp }))) (r .did)
+        (in-lines outputs actions stamps count) (ReadAs.call (mark-at lost stamp)) (r .did)
         (in-arrays p (now (held .exit)) (now (acts .exit)) (now (masks .exit)) (now (marks .exit)) (r .status))
         (in-lines outputs actions stamps (r .count))) ⌝ }
 {
-    let told = in_place::mark(p, held, acts, masks, marks, status, stamp);
+    let told = in_place::mark(p, held, acts, masks, marks, status, lost, stamp);
     let answer = told.answer;
     let next = told.status;
     if answer.refusal != 0 {
@@ -193,7 +194,9 @@ pub fn take(
             action,
             stamp,
         ),
-        RecordRead::Gap(stamp) => mark(p, held, acts, masks, marks, status, count, stamp),
+        RecordRead::Gap(lost, stamp) => {
+            mark(p, held, acts, masks, marks, status, count, lost, stamp)
+        }
         RecordRead::End(_) => Turn {
             did: Did::Ended,
             status: status,

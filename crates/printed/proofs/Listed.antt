@@ -130,16 +130,16 @@ module _ (s : Session) (count : ℕ) (x : ReadAs) where
               ((ap (λ (y : Stepped). y .answer .verdict) (sym (led .stepped)) ∙ stands .verdict) i)
               ((ap (λ (y : Stepped). y .answer .open_count) (sym (led .stepped)) ∙ stands .counted) i))
 
-  pub mark-adds : (stamp : ℕ) → x ≡ ReadAs.call (mark-at stamp)
-      → (told : Told) (made : Status → Session) → Advanced s (mark-at stamp) (told .answer) (made (told .status))
-      → (a : Added) → a ≡ call-added told count (line-text (one-after count) gap 0 stamp 3 0) → Adds s count x a (made (a .status))
-  mark-adds stamp k told made led = call-adds (mark-at stamp) k told made _ led shows
+  pub mark-adds : (lost stamp : ℕ) → x ≡ ReadAs.call (mark-at lost stamp)
+      → (told : Told) (made : Status → Session) → Advanced s (mark-at lost stamp) (told .answer) (made (told .status))
+      → (a : Added) → a ≡ call-added told count (line-text (one-after count) gap lost stamp 3 0) → Adds s count x a (made (a .status))
+  mark-adds lost stamp k told made led = call-adds (mark-at lost stamp) k told made _ led shows
     where
-      shows : stepped-of s (mark-at stamp) .answer .refusal ≡ 0
-          → line-text (one-after count) gap 0 stamp 3 0 ≡ call-text (one-after count) (mark-at stamp) (stepped-of s (mark-at stamp) .session)
+      shows : stepped-of s (mark-at lost stamp) .answer .refusal ≡ 0
+          → line-text (one-after count) gap lost stamp 3 0 ≡ call-text (one-after count) (mark-at lost stamp) (stepped-of s (mark-at lost stamp) .session)
       shows z =
-          let stands : AsBlind (stepped-of s (mark-at stamp) .session) = mark-blind s (record { stamp = stamp }) z in
-          unfold call-text in (λ i. line-text (one-after count) gap 0 stamp (stands .verdict i) (stands .counted i))
+          let stands : AsBlind (stepped-of s (mark-at lost stamp) .session) = mark-blind s (record { lost = lost; stamp = stamp }) z in
+          unfold call-text in (λ i. line-text (one-after count) gap lost stamp (stands .verdict i) (stands .counted i))
 
   -- ---- the last line
 

@@ -26,11 +26,11 @@ kind-of (Action.input k) = input
 kind-of (Action.output k) = output
 
 -- The line of a record that was taken as a call: "record number from 1; I, O or G; action; stamp; verdict after it; number
--- open", the last two on the session after it.
+-- open", the last two on the session after it. Document 02, CR 7: "the printing program shows it in the action column", a gap's number.
 unfoldable pub call-text : ℕ → Call → Session → List ℕ
 call-text number (Call.line l) after =
     line-text number (kind-of (l .action)) (number-of (l .action)) (l .stamp) (standing after) (count-of after)
-call-text number (Call.mark g) after = line-text number gap 0 (g .stamp) (standing after) (count-of after)
+call-text number (Call.mark g) after = line-text number gap (g .lost) (g .stamp) (standing after) (count-of after)
 
 -- The listing ends with this line; the session and the count are as they were.
 abbrev pub last-line : Session → ℕ → List ℕ → Printed

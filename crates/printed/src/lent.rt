@@ -82,9 +82,10 @@ fn on_line(told: Told, count: u64, output: bool, action: u8, stamp: u64) -> Adde
     }
 }
 
-// A record that is a gap. Its answer has the verdict of the run that it closes; what stands after it is blind, with none open.
-fn on_mark(told: Told, count: u64, stamp: u64) -> Added
-    ensures { λ r. ⌜ r ≡ call-added told count (line-text (one-after count) gap 0 stamp 3 0) ⌝ }
+// A record that is a gap: in place of an action it shows its number of lost lines. Its answer has the verdict of the run that it closes;
+// what stands after it is blind, with none open.
+fn on_mark(told: Told, count: u64, lost: u8, stamp: u64) -> Added
+    ensures { λ r. ⌜ r ≡ call-added told count (line-text (one-after count) gap lost stamp 3 0) ⌝ }
 {
     let answer = told.answer;
     let status = told.status;
@@ -93,7 +94,7 @@ fn on_mark(told: Told, count: u64, stamp: u64) -> Added
     }
     let number = std::num::wrapping_add_u64(count, 1);
     Added {
-        text: printout::line(number, 2, 0, stamp, 3, 0),
+        text: printout::line(number, 2, lost, stamp, 3, 0),
         status: status,
         count: number,
         more: true,
@@ -147,9 +148,9 @@ pub fn record(
             );
             on_line(r, count, true, action, stamp)
         }
-        RecordRead::Gap(stamp) => {
-            let r = in_place::mark(p, held, acts, masks, marks, status, stamp);
-            on_mark(r, count, stamp)
+        RecordRead::Gap(lost, stamp) => {
+            let r = in_place::mark(p, held, acts, masks, marks, status, lost, stamp);
+            on_mark(r, count, lost, stamp)
         }
         RecordRead::End(_) => ended(status, count),
         RecordRead::Refused(number) => stopped(status, count, number),

@@ -25,20 +25,20 @@ enum-known-read-2 c = search needs
 front-requires-2 : tie.Need-front-requires-2
 front-requires-2 c κs = search needs
 
-enum-told : tie.Need-enum-told
-enum-told c = search needs
+enum-known-read-3 : tie.Need-enum-known-read-3
+enum-known-read-3 c = search needs
 
 front-requires-3 : tie.Need-front-requires-3
 front-requires-3 c κs = search needs
 
-enum-told-2 : tie.Need-enum-told-2
-enum-told-2 c = search needs
+enum-told : tie.Need-enum-told
+enum-told c = search needs
 
 front-requires-4 : tie.Need-front-requires-4
 front-requires-4 c κs = search needs
 
-enum-told-3 : tie.Need-enum-told-3
-enum-told-3 c = search needs
+enum-told-2 : tie.Need-enum-told-2
+enum-told-2 c = search needs
 
 front-requires-5 : tie.Need-front-requires-5
 front-requires-5 c κs = search needs
@@ -53,15 +53,15 @@ returns-2 c = c .front2 .ensures ∙ shown (c .before .before .before .before .a
 
 returns-3 : tie.Need-returns-3
 unfolding kind-as action-as
-returns-3 c = c .front3 .ensures ∙ shown (c .before .before .before .args .number) (sym (c .before .enum-told .given .1))
+returns-3 c = c .front3 .ensures ∙ shown (c .before .before .before .before .args .number) (sym (c .before .before .read3 .given .1))
 
 returns-4 : tie.Need-returns-4
 unfolding kind-as action-as
-returns-4 c = c .front4 .ensures ∙ shown (c .before .before .before .args .number) (sym (c .before .enum-told2 .given .1))
+returns-4 c = c .front4 .ensures ∙ shown (c .before .before .before .args .number) (sym (c .before .enum-told .given .1))
 
 returns-5 : tie.Need-returns-5
 unfolding kind-as action-as
-returns-5 c = c .front5 .ensures ∙ shown (c .before .before .before .args .number) (sym (c .before .enum-told3 .given .1))
+returns-5 c = c .front5 .ensures ∙ shown (c .before .before .before .args .number) (sym (c .before .enum-told2 .given .1))
 
 pub front-of-spec : {M : Type 1} → statement M
 front-of-spec =
@@ -71,11 +71,11 @@ front-of-spec =
     front-requires
     enum-known-read-2
     front-requires-2
-    enum-told
+    enum-known-read-3
     front-requires-3
-    enum-told-2
+    enum-told
     front-requires-4
-    enum-told-3
+    enum-told-2
     front-requires-5
     returns
     returns-2

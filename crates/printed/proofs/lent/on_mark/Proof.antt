@@ -28,7 +28,7 @@ returns-2 c =
     let number = c .before .wrapping-add-u64 .ensures in
     (λ i.
     record {
-      text = (c .line .ensures ∙ (λ j. text-of (line-text (number j) gap 0 (a .stamp) 3 0))) i;
+      text = (c .line .ensures ∙ (λ j. text-of (line-text (number j) gap (a .lost) (a .stamp) 3 0))) i;
       status = a .told .status;
       count = number i;
       more = true;

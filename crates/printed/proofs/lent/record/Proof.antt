@@ -79,7 +79,7 @@ returns-3 : tie.Need-returns-3
 returns-3 c =
     let b = c .before .before .before .before .before .before .before .before .before in
     let last = c .before .mark .last .1 in
-    mark-adds (entry b) (b .args .count) _ _ (ap case-as (c .before .before .before .before .before .before .before .read3 .given .1))
+    mark-adds (entry b) (b .args .count) _ _ _ (ap case-as (c .before .before .before .before .before .before .before .read3 .given .1))
     (c .before .mark .result)
     (in-arrays (b .args .p) (last .0) (last .1 .0) (last .1 .1 .0) (last .1 .1 .1 .0))
     (c .before .mark .ensures) _ (c .on-mark .ensures)
