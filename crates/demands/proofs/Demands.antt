@@ -67,7 +67,10 @@ pub use Rattle.demands.proofs.Same.{demand-tap}
 -- Names (document 02, CR 2), in `Names`: the lists, `names::refused` and `name`, the listing with names.
 pub use Rattle.demands.proofs.Names.{list-taken, list-back, list-one-packing, one-list, one-entry, demand-1-names, demand-name, demand-1-lists, demand-1-named, demand-named}
 -- What is called (`Called`). A verdict once told stays told (document 02, CR 3): of the calls that run (`Told`), behind `running-3`.
-pub use Rattle.demands.proofs.Called.{kinds, own-call, line-called, event-called}
+pub use Rattle.demands.proofs.Called.{kinds, own-call, line-called, mark-called, event-called}
+-- How many lines were lost (document 02, CR 7), in `Lost`: a gap's number read and written, `mark` and its refusals, that nothing depends on the
+-- number, and two walks joined.
+pub use Rattle.demands.proofs.Lost.{gap-read, gap-number, gap-written, demand-1-mark, same-watched, same-told, same-step, same-through, same-answers, same-walk, same-judge, demand-joined}
 pub use Rattle.demands.proofs.Told.{told-stays, closed-stays, closed-history, line-stands, session-stays, walk-stays, listing-stays, refused-stays}
 
 -- ==== Demand 2, over the meaning. "After each line taken while the watcher isn't blind, the verdict on the run is exact."
@@ -204,14 +207,14 @@ module _ (p : Data.Property) (good : property-refusal (meant p) ≡ 0) where
   any-uses calls uses = uses-are-calls p good calls uses
 
   -- and a walk takes the trace's own records, in order, as many as it says it took, each as a single call. It is refused as the first
-  -- record not taken is, and "lines taken earlier in the same call stay taken".
+  -- record not taken is, and "lines taken earlier in the same call stay taken"; it has the last taken gap's number of lost lines.
   pub running-walk : (calls : List Call) (bytes : List ℕ) (budget : ℕ)
       → WalkedOver (running p good calls) bytes (budget-of budget) (walk-of (running p good calls) bytes budget)
   running-walk calls bytes budget = walk-over (running p good calls) bytes budget (running-range p good calls)
 
 -- ==== The walk on any record, also one that no calls made: 10 first, whatever the budget, else as above; `walk_rest` begins behind it
 pub record Demand-1-walk (s : Session) (bytes : List ℕ) (budget : ℕ) : Type 0 where
-  pub named : out-of-range s ≡ true → walk-of s bytes budget ≡ record { taken = 0; stop = 2; refusal = 10; read = 0; session = s }
+  pub named : out-of-range s ≡ true → walk-of s bytes budget ≡ record { taken = 0; stop = 2; refusal = 10; read = 0; lost = 0; session = s }
   pub walked : out-of-range s ≡ false → WalkedOver s bytes (budget-of budget) (walk-of s bytes budget)
   pub rest : rest-start (length bytes) (walk-of s bytes budget .read) ≡ walk-of s bytes budget .read
 

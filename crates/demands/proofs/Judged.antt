@@ -24,8 +24,7 @@ use Rattle.session_record.specs.Record.{latest-of}
 use Rattle.session_record.specs.Step.{stepped-of, stepped-through}
 use Rattle.walk.specs.declared.Stop.{Stop}
 use Rattle.walk.specs.declared.Stop.the-variants.{Budget, End, Refused}
-use Rattle.walk.specs.declared.Walked.{Walked}
-use Rattle.walk.specs.Walk.{stop-number, stop-refusal, one-call, one-read, stopped, one-more, walked-by, walk-on, in-numbers}
+use Rattle.walk.specs.Walk.{Walk, stop-number, stop-refusal, one-call, one-read, stopped, one-more, walked-by, walk-on, answered}
 use Rattle.stretch.specs.Judge.{by-stop}
 use Rattle.demands.specs.Traces.{calls-of, BeginsWith, behind, TakenOneByOne, StopsBy, met, first-met}
 use Rattle.demands.proofs.Running.{running, seen, running-latest, running-number, running-next, seen-taken}
@@ -55,7 +54,7 @@ taken-as s bytes (x ∷ entries) b t e d =
           (taken-as (stepped-of s (entry-call x) .session) (drop record-size bytes) entries (subst (λ (n : ℕ). BeginsWith (drop record-size bytes) n entries) (sym q) (b .1)) (t .1) e d),
     )
 
-pub record TakenWhole (s : Session) (bytes : List ℕ) (w : Walked) : Type 0 where
+pub record TakenWhole (s : Session) (bytes : List ℕ) (w : Walk) : Type 0 where
   pub entries : List Entry
   pub is : TakenAs bytes (latest-of s) entries
   pub counted : w .taken ≡ length entries
@@ -63,10 +62,10 @@ pub record TakenWhole (s : Session) (bytes : List ℕ) (w : Walked) : Type 0 whe
   pub session : w .session ≡ stepped-through s (calls-of entries)
 
 -- a walk that stopped at an end record with nothing behind it
-pub whole-trace : (n : ℕ) (s : Session) (bytes : List ℕ) (w : Walked) → walk-on n s bytes ≡ w → w .stop ≡ End → length bytes ≤ w .read → TakenWhole s bytes w
-whole-trace n s bytes w e stop all = go (subst (λ (x : Walked). WalkedOver s bytes n (in-numbers x)) e (walked-over n s bytes))
+pub whole-trace : (n : ℕ) (s : Session) (bytes : List ℕ) (w : Walk) → walk-on n s bytes ≡ w → w .stop ≡ End → length bytes ≤ w .read → TakenWhole s bytes w
+whole-trace n s bytes w e stop all = go (subst (λ (x : Walk). WalkedOver s bytes n (answered bytes x)) e (walked-over n s bytes))
   where
-    go : WalkedOver s bytes n (in-numbers w) → TakenWhole s bytes w
+    go : WalkedOver s bytes n (answered bytes w) → TakenWhole s bytes w
     go h =
         let st = subst (λ (x : Stop). StopsBy (stop-number x) (n - w .taken) (w .session) (behind (h .entries) bytes) (stop-refusal x) (h .more)) stop (h .stops) in
         let end = subst (λ (x : Session). record-answer (behind (h .entries) bytes) (latest-of x) ≡ Record.taken Record.end 0 (latest-of x)) (h .session) (st .0) in
@@ -86,11 +85,11 @@ whole-trace n s bytes w e stop all = go (subst (λ (x : Walked). WalkedOver s by
 
 module _ (p : Property) (good : property-refusal (meant p) ≡ 0) where
   -- what a walk over these bytes comes to for the judge
-  abbrev judged : List ℕ → Walked → ℕ
+  abbrev judged : List ℕ → Walk → ℕ
   judged bytes w = by-stop (w .stop) (ltb (w .read) (length bytes)) w .refusal
 
   -- one record more, and the bytes behind it
-  judged-more : (bytes : List ℕ) (w : Walked) → record-size ≤ length bytes → judged bytes (one-more w) ≡ judged (drop record-size bytes) w
+  judged-more : (bytes : List ℕ) (w : Walk) → record-size ≤ length bytes → judged bytes (one-more w) ≡ judged (drop record-size bytes) w
   judged-more bytes w h = go (w .stop) (ltb (record-size + w .read) (length bytes)) (ltb (w .read) (length (drop record-size bytes))) same
     where
       same : ltb (record-size + w .read) (length bytes) ≡ ltb (w .read) (length (drop record-size bytes))
@@ -122,7 +121,7 @@ module _ (p : Property) (good : property-refusal (meant p) ≡ 0) where
       w : Watch
       w = seen p good calls
 
-      f : Session → Walked
+      f : Session → Walk
       f after = walk-on n after (drop record-size bytes)
 
       IH : Type 0

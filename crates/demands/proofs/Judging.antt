@@ -29,8 +29,7 @@ use Rattle.session_record.proofs.Running.{fresh-record}
 use Rattle.cuts.specs.Steps.{fresh-by}
 use Rattle.walk.specs.declared.Stop.{Stop}
 use Rattle.walk.specs.declared.Stop.the-variants.{Budget, End, Refused}
-use Rattle.walk.specs.declared.Walked.{Walked}
-use Rattle.walk.specs.Walk.{stop-number, stop-refusal, walk-on, in-numbers}
+use Rattle.walk.specs.Walk.{Walk, stop-number, stop-refusal, walk-on, answered}
 use Rattle.stretch.specs.declared.Judged.{Judged}
 use Rattle.stretch.specs.Judge.{refused, by-stop, walked, trace-judged, by-property, judge-of, one-number}
 use Rattle.stretch.proofs.Bounds.{judge-small}
@@ -49,7 +48,7 @@ module _ (p : Property) (good : property-refusal (meant p) ≡ 0) (trace : List 
 
   trace-first : trace-judged p trace .refusal ≡ first-met (length trace) (meant p) fresh trace
   unfolding watched
-  trace-first = ap (λ (w : Walked). by-stop (w .stop) (ltb (w .read) (length trace)) w .refusal) on-fresh ∙ judged-first p good (length trace) [] trace
+  trace-first = ap (λ (w : Walk). by-stop (w .stop) (ltb (w .read) (length trace)) w .refusal) on-fresh ∙ judged-first p good (length trace) [] trace
 
   -- what the judge takes of a trace
   record TraceTaken : Type 0 where
@@ -59,10 +58,10 @@ module _ (p : Property) (good : property-refusal (meant p) ≡ 0) (trace : List 
   trace-taken : trace-judged p trace .refusal ≡ 0 → TraceTaken
   trace-taken e = go (walked p trace .stop) refl (ltb (walked p trace .read) (length trace)) refl e
     where
-      w : Walked
+      w : Walk
       w = walked p trace
 
-      refused-some : (n : ℕ) → WalkedOver (record-of p (fresh-by p)) trace (length trace) (in-numbers w) → w .stop ≡ Refused n → n ≡ 0 → ⊥
+      refused-some : (n : ℕ) → WalkedOver (record-of p (fresh-by p)) trace (length trace) (answered trace w) → w .stop ≡ Refused n → n ≡ 0 → ⊥
       refused-some n h q =
           subst (λ (x : Stop). StopsBy (stop-number x) (length trace - w .taken) (w .session) (behind (h .entries) trace) (stop-refusal x) (h .more)) q (h .stops) .1
 
@@ -159,7 +158,7 @@ module _ (property trace : List ℕ) where
       }
 
 -- "gives its number alone, with verdict and count 0"
-stops-alone : (n : ℕ) (stop : Stop) (b : Bool) (w : Walked) → by-stop stop b w .refusal ≡ suc n → by-stop stop b w ≡ refused (suc n)
+stops-alone : (n : ℕ) (stop : Stop) (b : Bool) (w : Walk) → by-stop stop b w .refusal ≡ suc n → by-stop stop b w ≡ refused (suc n)
 unfolding by-stop
 stops-alone n Budget b w e = ap refused e
 stops-alone n (Refused m) b w e = ap refused e

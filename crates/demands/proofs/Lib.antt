@@ -4,6 +4,7 @@ pub mod Running
 pub mod Exact
 pub mod Walks
 pub mod Uses
+pub mod Lost
 pub mod Called
 pub mod Judged
 pub mod Judging

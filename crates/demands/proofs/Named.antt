@@ -30,7 +30,7 @@ use Rattle.demands.specs.Names.{Row, name-by, plain-row, named-row, all-
 row-of : ℕ → Call → Session → Row
 row-of number (Call.line l) after =
     record { number = number; kind = kind-of (l .action); action = number-of (l .action); stamp = l .stamp; verdict = standing after; open-count = count-of after }
-row-of number (Call.mark g) after = record { number = number; kind = 2; action = 0; stamp = g .stamp; verdict = standing after; open-count = count-of after }
+row-of number (Call.mark g) after = record { number = number; kind = 2; action = g .lost; stamp = g .stamp; verdict = standing after; open-count = count-of after }
 
 row-plain : (number : ℕ) (c : Call) (after : Session) → call-text number c after ≡ plain-row (row-of number c after)
 unfolding call-text row-of

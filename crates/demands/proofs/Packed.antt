@@ -1,7 +1,7 @@
 -- Demand 1 of the packed forms: "a numbered refusal, given exactly when the rules say so", and nothing else is answered or altered.
 use Prim.Native.Nat.{ℕ, suc, _+_, _-_, _%_, _^_}
 use mathlib.Core.Path.{_≡_, refl, sym, _∙_}
-use mathlib.Core.Bool.{not, cond}
+use mathlib.Core.Bool.{not, cond, _&&_, _||_}
 use mathlib.Core.List.{List}
 use native.Mathlib.Omega.{arith}
 use lib.ListN.{length}
@@ -18,7 +18,7 @@ use Rattle.fields.specs.Fields.{field}
 use Rattle.record_form.specs.Record.{record-answer, read-refusal, fields-refusal, bytes-read, broken, stamp-above, write-refusal}
 use Rattle.record_form.specs.Record
 use Rattle.record_form.proofs.Reading.{refusal-of}
-use Rattle.tap_form.specs.Tap.{since, tap-stamp, tap-fields-refusal, tap-refusal, tap-answer, tap-bytes-read}
+use Rattle.tap_form.specs.Tap.{since, tap-stamp, tap-broken, tap-fields-refusal, tap-refusal, tap-answer, tap-bytes-read}
 use Rattle.tap_form.proofs.Reading.{tap-number, tap-taken, tap-size-taken}
 use Rattle.demands.specs.Refuses.{Refuses}
 use Rattle.demands.proofs.Forms.{answer-refused, record-not-written}
@@ -64,21 +64,21 @@ pub demand-1-write-record : (kind action stamp before : ℕ) (buffer : List ℕ)
 unfolding write-refusal
 demand-1-write-record kind action stamp before buffer = record { first = refl; alone = record-not-written kind action stamp before buffer }
 
--- `read_tap` with `tap_rest` (document 02, CR 4): 7, 8, 4, of the stamp before plus the wrapped difference, or for an end of the stamp
+-- `read_tap` with `tap_rest` (document 02, CR 4): 7, 8, also of a gap with an action, 4, of the stamp before plus the wrapped difference, or for an end of the stamp
 -- before; zeros, and no byte is taken.
 pub demand-1-read-tap : (s : List ℕ) (before : ℕ)
     → Refuses (tap-answer s before .refusal)
     (first-of (given 7 (ltb (length s) 5))
-    (first-of (given 8 (broken (field s 0 2) (field s 2 6) (not (eqb (field s 8 32) 0))))
+    (first-of (given 8 (eqb (field s 0 2) 2 && not (eqb (field s 2 6) 0) || broken (field s 0 2) (field s 2 6) (not (eqb (field s 8 32) 0))))
     (given 4 (stamp-above (cond (eqb (field s 0 2) 3) before (before + (field s 8 32 + (2 ^ 32 - before % 2 ^ 32)) % 2 ^ 32)) before))))
     (λ n. (tap-answer s before ≡ Record.refused n) × (tap-bytes-read s before ≡ 0))
-unfolding tap-answer tap-refusal tap-fields-refusal tap-stamp since tap-bytes-read
+unfolding tap-answer tap-refusal tap-fields-refusal tap-broken tap-stamp since tap-bytes-read
 demand-1-read-tap s before =
     record { first = tap-number s before; alone = λ n e. answer-refused (tap-refusal s before) n 5 _ (sym (tap-number s before) ∙ e) }
 
--- Taken, it answers its fields, with that stamp, and takes five bytes.
+-- Taken, it answers its fields, a gap's number of lost lines as 63 (CR 7), with that stamp, and takes five bytes.
 pub demand-read-tap : (s : List ℕ) (before : ℕ) → tap-answer s before .refusal ≡ 0
-    → (tap-answer s before ≡ Record.taken (field s 0 2) (field s 2 6) (cond (eqb (field s 0 2) 3) before (before + (field s 8 32 + (2 ^ 32 - before % 2 ^ 32)) % 2 ^ 32)))
+    → (tap-answer s before ≡ Record.taken (field s 0 2) (cond (eqb (field s 0 2) 2) 63 (field s 2 6)) (cond (eqb (field s 0 2) 3) before (before + (field s 8 32 + (2 ^ 32 - before % 2 ^ 32)) % 2 ^ 32)))
     × (tap-bytes-read s before ≡ 5)
 unfolding tap-stamp since
 demand-read-tap s before e =

@@ -145,7 +145,7 @@ module _ (p : Property) (good : property-refusal (meant p) ≡ 0) where
           → On → unless-gap e ((n ≤ r .verdict) × NotBelow n rows)
       by (Entry.input k t) st on = on-line _ st on
       by (Entry.output k t) st on = on-line _ st on
-      by (Entry.gap t) st on = tt
+      by (Entry.gap k t) st on = tt
 
   was-open : (calls : List Call) (v : Verdict) → Standing q (watched q fresh calls) v → verdict-number v < 3 → watched q fresh calls .is-blind ≡ false
   was-open calls v h small = by (watched q fresh calls .is-blind) refl
@@ -172,8 +172,8 @@ module _ (p : Property) (good : property-refusal (meant p) ≡ 0) where
       → told-by (running p good calls) e ≡ standing (stepped-of (running p good calls) (entry-call e) .session)
   told-stands calls (Entry.input k t) z = line-stands calls _ z
   told-stands calls (Entry.output k t) z = line-stands calls _ z
-  told-stands calls (Entry.gap t) z =
-      let c : Call = entry-call (Entry.gap t) in
+  told-stands calls (Entry.gap k t) z =
+      let c : Call = entry-call (Entry.gap k t) in
       let v = standing-told p good (calls ++ c ∷ []) in
       let blind : seen p good (calls ++ c ∷ []) .is-blind ≡ true = ap (λ x. x .is-blind) (seen-taken p good calls c (sym (running-number p good calls c) ∙ z)) in
       sym (says-blind p good (seen p good (calls ++ c ∷ [])) (v .0) blind (v .1)) ∙ sym (v .2) ∙ ap standing (running-next p good calls c)

@@ -1,24 +1,25 @@
 -- A walk takes the trace's own records, in order, each as a single call; and how it stops.
 use Prim.Native.Nat.{ℕ, zero, suc, _+_, _-_, _*_, _≤_}
-use mathlib.Core.Path.{_≡_, refl, sym, _∙_, ap, subst}
+use mathlib.Core.Path.{_≡_, refl, sym, _∙_, ap, ap₂, subst}
 use mathlib.Core.Logic.{inl, inr}
 use mathlib.Core.Bool.{Bool, true, false, cond}
 use mathlib.Core.List.{List, [], _∷_}
 use native.Mathlib.Omega.{arith}
 use lib.ListN.{length, drop}
+use lib.Dec.{eqb}
 use Rattle.meaning.specs.Calls.{Call, beyond}
 use Rattle.meaning.specs.Matcher.{Lengths}
 use Rattle.meaning.specs.Step.{Cuts}
 use Rattle.meaning.specs.History.{stamp-of as call-stamp}
 use Rattle.property.specs.Meant.{meant}
 use Rattle.property.specs.declared.Property.{Property}
-use Rattle.record_form.specs.Record.{Reader, ReadBy, record-size, record-answer, case-of}
+use Rattle.record_form.specs.Record.{Reader, ReadBy, RecordAnswer, record-size, record-answer, case-of}
 use Rattle.record_form.specs.Record
 use Rattle.record_form.specs.ReadAs.{ReadAs, read-as, case-as}
 use Rattle.record_form.specs.Trace.{Entry, kind-of, action-of, stamp-of, entry-call}
 use Rattle.record_form.specs.declared.RecordRead.{RecordRead}
 use Rattle.record_form.specs.declared.RecordRead.the-variants.{Input, Output, Gap, End as RecordEnd, Refused as RecordRefused}
-use Rattle.record_form.proofs.ReadAs.{read-case, refused-given}
+use Rattle.record_form.proofs.ReadAs.{read-case, refused-given, fields-read}
 use Rattle.record_form.proofs.Reader.{Reads, record-reads}
 use Rattle.cuts.specs.Steps.{front-after, front-fresh, front-none, taken-by}
 use Rattle.session_record.specs.declared.Session.{Session}
@@ -28,11 +29,11 @@ use Rattle.session_record.specs.Step.{stepped-of, stepped-through}
 use Rattle.session_record.proofs.Steps.{step-taken, answer-refusal}
 use Rattle.walk.specs.declared.Stop.{Stop}
 use Rattle.walk.specs.declared.Stop.the-variants.{End, Refused}
-use Rattle.walk.specs.declared.Walked.{Walked}
-use Rattle.walk.specs.Walk.{Walking, stop-number, stop-refusal, one-call, one-read, stopped, one-more, walked-by, walk-on, in-numbers, budget-of, walk-of, rest-start}
+use Rattle.walk.specs.Walk.{Walk, Walking, stop-number, stop-refusal, one-call, one-read, stopped, one-more, walked-by, walk-on, lost-with, last-lost, answered, budget-of, walk-of, rest-start}
 use Rattle.walk.proofs.Going.{walk-refused, walk-taken}
 use Rattle.walk.proofs.Steps.{rest-behind}
 use Rattle.demands.specs.Traces.{calls-of, BeginsWith, behind, TakenOneByOne, StopsBy}
+use Rattle.demands.specs.Lost.{lost-by, last-gap}
 
 -- What the record at the front is, as a reader reads it: an entry of a trace, the end, or refused.
 pub data Front (reader : Reader) (s : List ℕ) (before : ℕ) : ReadAs → Type 0 where
@@ -49,7 +50,7 @@ front {size} {reader} reads s before = subst (Front reader s before) (sym (read-
     go : (r : RecordRead) → ReadBy reader s before r → Front reader s before (case-as r)
     go (Input a t) k = entry (Entry.input a t) (sym (k .in-numbers))
     go (Output a t) k = entry (Entry.output a t) (sym (k .in-numbers))
-    go (Gap t) k = entry (Entry.gap t) (sym (k .in-numbers))
+    go (Gap n t) k = entry (Entry.gap n t) (sym (k .in-numbers))
     go (RecordEnd t) k =
         let e = sym (k .in-numbers) in
         ended (e ∙ ap (Record.taken Record.end 0) (reads .end-stamp s before 0 t e))
@@ -73,7 +74,7 @@ taken-latest p c (Call.mark g) = refl
 entry-stamp : (e : Entry) → call-stamp (entry-call e) ≡ stamp-of e
 entry-stamp (Entry.input a t) = refl
 entry-stamp (Entry.output a t) = refl
-entry-stamp (Entry.gap t) = refl
+entry-stamp (Entry.gap n t) = refl
 
 pub entry-latest : (s : Session) (e : Entry) → stepped-of s (entry-call e) .answer .refusal ≡ 0 → latest-of (stepped-of s (entry-call e) .session) ≡ stamp-of e
 entry-latest s e z =
@@ -93,12 +94,32 @@ pub record WalkedOver (s : Session) (bytes : List ℕ) (budget : ℕ) (w : Walki
   -- each is taken as a single call, and the session is that of exactly these calls;
   pub each : TakenOneByOne s (calls-of entries)
   pub session : w .session ≡ stepped-through s (calls-of entries)
+  -- the number of lost lines is the last taken gap's, 0 if none was taken, however it stopped (document 02, CR 7);
+  pub lost : w .lost ≡ last-gap 0 entries
   -- how it stopped, and the bytes read.
   pub more : ℕ
   pub stops : StopsBy (w .stop) (budget - w .taken) (w .session) (behind entries bytes) (w .refusal) more
   pub read : w .read ≡ record-size * w .taken + more
 
-pub walked-over : (budget : ℕ) (s : Session) (bytes : List ℕ) → WalkedOver s bytes budget (in-numbers (walk-on budget s bytes))
+-- the last gap's number, by the bytes and by their records
+pub begun-lost : (bytes : List ℕ) (before : ℕ) (entries : List Entry) → BeginsWith bytes before entries → (lost : ℕ) → last-lost lost (length entries) bytes ≡ last-gap lost entries
+unfolding last-lost last-gap
+begun-lost bytes before [] h lost = refl
+begun-lost bytes before (e ∷ entries) h lost =
+    ap (λ (n : ℕ). last-lost n (length entries) (drop record-size bytes)) (one-lost e (h .0))
+    ∙ begun-lost (drop record-size bytes) (stamp-of e) entries (h .1) (lost-by lost e)
+  where
+    by : (x : Entry) → cond (eqb (kind-of x) 2) (action-of x) lost ≡ lost-by lost x
+    by (Entry.input k t) = refl
+    by (Entry.output k t) = refl
+    by (Entry.gap k t) = refl
+
+    one-lost : (x : Entry) → record-answer bytes before ≡ Record.taken (kind-of x) (action-of x) (stamp-of x) → lost-with lost bytes ≡ lost-by lost x
+    one-lost x r =
+        let f = fields-read bytes before (ap (λ (a : RecordAnswer). a .refusal) r) in
+        ap₂ (λ (k n : ℕ). cond (eqb k 2) n lost) (sym (f .0) ∙ ap (λ (a : RecordAnswer). a .kind) r) (sym (f .1) ∙ ap (λ (a : RecordAnswer). a .action) r) ∙ by x
+
+pub walked-over : (budget : ℕ) (s : Session) (bytes : List ℕ) → WalkedOver s bytes budget (answered bytes (walk-on budget s bytes))
 unfolding walk-on stepped-through
 walked-over zero s bytes =
     record {
@@ -108,18 +129,19 @@ walked-over zero s bytes =
       within = omega arith;
       each = tt;
       session = refl;
+      lost = begun-lost bytes (latest-of s) [] tt 0;
       more = 0;
       stops = (refl, refl, refl);
       read = refl;
     }
 walked-over (suc budget) s bytes = by-front (read-as (record-answer bytes (latest-of s))) (front record-reads bytes (latest-of s)) (λ after. walked-over budget after (drop record-size bytes))
   where
-    on : Session → Walked
+    on : Session → Walk
     on after = walk-on budget after (drop record-size bytes)
 
     -- nothing is taken
     stop-here : (stop : Stop) (more : ℕ) → StopsBy (stop-number stop) (suc budget - 0) s bytes (stop-refusal stop) more
-        → WalkedOver s bytes (suc budget) (in-numbers (stopped s stop more))
+        → WalkedOver s bytes (suc budget) (answered bytes (stopped s stop more))
     stop-here stop more h =
         record {
           entries = [];
@@ -128,6 +150,7 @@ walked-over (suc budget) s bytes = by-front (read-as (record-answer bytes (lates
           within = omega arith;
           each = tt;
           session = refl;
+          lost = begun-lost bytes (latest-of s) [] tt 0;
           more = more;
           stops = h;
           read = let e : more ≡ record-size * 0 + more = omega arith in e;
@@ -135,16 +158,18 @@ walked-over (suc budget) s bytes = by-front (read-as (record-answer bytes (lates
 
     -- one record more
     one-taken : (e : Entry) → record-answer bytes (latest-of s) ≡ Record.taken (kind-of e) (action-of e) (stamp-of e) → stepped-of s (entry-call e) .answer .refusal ≡ 0
-        → (w : Walked) → WalkedOver (stepped-of s (entry-call e) .session) (drop record-size bytes) budget (in-numbers w)
-        → WalkedOver s bytes (suc budget) (in-numbers (one-more w))
+        → (w : Walk) → WalkedOver (stepped-of s (entry-call e) .session) (drop record-size bytes) budget (answered (drop record-size bytes) w)
+        → WalkedOver s bytes (suc budget) (answered bytes (one-more w))
     one-taken e read z w h =
+        let begins : BeginsWith bytes (latest-of s) (e ∷ h .entries) = (read, subst (λ (t : ℕ). BeginsWith (drop record-size bytes) t (h .entries)) (entry-latest s e z) (h .begins)) in
         record {
           entries = e ∷ h .entries;
-          begins = (read, subst (λ (t : ℕ). BeginsWith (drop record-size bytes) t (h .entries)) (entry-latest s e z) (h .begins));
+          begins = begins;
           counted = ap suc (h .counted);
           within = omega (arith, h .within);
           each = (z, h .each);
           session = h .session;
+          lost = ap (λ (n : ℕ). last-lost 0 (suc n) bytes) (h .counted) ∙ begun-lost bytes (latest-of s) (e ∷ h .entries) begins 0;
           more = h .more;
           stops =
               subst (λ (left : ℕ). StopsBy (stop-number (w .stop)) left (w .session) (behind (h .entries) (drop record-size bytes)) (stop-refusal (w .stop)) (h .more))
@@ -155,13 +180,13 @@ walked-over (suc budget) s bytes = by-front (read-as (record-answer bytes (lates
         }
 
     tried : (e : Entry) → record-answer bytes (latest-of s) ≡ Record.taken (kind-of e) (action-of e) (stamp-of e) → (n : ℕ) → stepped-of s (entry-call e) .answer .refusal ≡ n
-        → ((after : Session) → WalkedOver after (drop record-size bytes) budget (in-numbers (on after)))
-        → WalkedOver s bytes (suc budget) (in-numbers (walked-by (one-call s (entry-call e) n) s on))
+        → ((after : Session) → WalkedOver after (drop record-size bytes) budget (answered (drop record-size bytes) (on after)))
+        → WalkedOver s bytes (suc budget) (answered bytes (walked-by (one-call s (entry-call e) n) s on))
     tried e read zero z k = unfold one-call walked-by in (one-taken e read z (on (stepped-of s (entry-call e) .session)) (k (stepped-of s (entry-call e) .session)))
     tried e read (suc n) z k = unfold one-call walked-by in (stop-here (Refused (suc n)) 0 (inr (e, read, z), (λ y. omega arith), refl))
 
-    by-front : (x : ReadAs) → Front record-answer bytes (latest-of s) x → ((after : Session) → WalkedOver after (drop record-size bytes) budget (in-numbers (on after)))
-        → WalkedOver s bytes (suc budget) (in-numbers (walked-by (one-read s x) s on))
+    by-front : (x : ReadAs) → Front record-answer bytes (latest-of s) x → ((after : Session) → WalkedOver after (drop record-size bytes) budget (answered (drop record-size bytes) (on after)))
+        → WalkedOver s bytes (suc budget) (answered bytes (walked-by (one-read s x) s on))
     by-front x (entry e read) k = unfold one-read in (tried e read _ refl k)
     by-front x (ended read) k = unfold one-read walked-by in (stop-here End record-size (read, refl, refl))
     by-front x (refused n number some) k =
@@ -171,7 +196,8 @@ walked-over (suc budget) s bytes = by-front (read-as (record-answer bytes (lates
 pub walk-over : (s : Session) (bytes : List ℕ) (budget : ℕ) → out-of-range s ≡ false → WalkedOver s bytes (budget-of budget) (walk-of s bytes budget)
 walk-over s bytes budget e = subst (WalkedOver s bytes (budget-of budget)) (sym (walk-taken s bytes budget e)) (walked-over (budget-of budget) s bytes)
 
-pub walk-named : (s : Session) (bytes : List ℕ) (budget : ℕ) → out-of-range s ≡ true → walk-of s bytes budget ≡ in-numbers (stopped s (Refused 10) 0)
+pub walk-named : (s : Session) (bytes : List ℕ) (budget : ℕ) → out-of-range s ≡ true
+    → walk-of s bytes budget ≡ record { taken = 0; stop = 2; refusal = 10; read = 0; lost = 0; session = s }
 walk-named = walk-refused
 
 pub walk-rest : (s : Session) (bytes : List ℕ) (budget : ℕ) → rest-start (length bytes) (walk-of s bytes budget .read) ≡ walk-of s bytes budget .read

@@ -1,5 +1,6 @@
 -- The words in which the demands speak of traces and of calls that are made one after the other.
 pub mod Refuses
+pub mod Lost
 pub mod Traces
 pub mod Uses
 pub mod Listing

@@ -19,7 +19,7 @@ pub record Row : Type 0 where
 abbrev pub unless-gap : Entry → Type 0 → Type 0
 unless-gap (Entry.input k t) A = A
 unless-gap (Entry.output k t) A = A
-unless-gap (Entry.gap t) A = Unit {0}
+unless-gap (Entry.gap k t) A = Unit {0}
 
 unfoldable pub NotBelow : ℕ → List Row → Type 0
 NotBelow n [] = Unit {0}
@@ -34,7 +34,7 @@ StayTold n (r ∷ rows) = (n < 3 → NotBelow n (r ∷ rows)) × StayTold (r .ve
 abbrev pub told-by : Session → Entry → ℕ
 told-by s (Entry.input k t) = stepped-of s (entry-call (Entry.input k t)) .answer .verdict
 told-by s (Entry.output k t) = stepped-of s (entry-call (Entry.output k t)) .answer .verdict
-told-by s (Entry.gap t) = 3
+told-by s (Entry.gap k t) = 3
 
 -- The records that a walk takes, with what each would tell as a single call.
 unfoldable pub walk-rows : Session → List Entry → List Row

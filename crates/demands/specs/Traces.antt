@@ -16,14 +16,14 @@ use Rattle.session_record.specs.declared.Session.{Session}
 use Rattle.session_record.specs.Record.{latest-of}
 use Rattle.session_record.specs.Step.{stepped-of}
 
--- The record of a call: a line is an input or an output with its stamp, a gap mark has its stamp.
+-- The record of a call: a line is an input or an output with its stamp, a gap mark has its number of lost lines and its stamp.
 abbrev pub action-entry : Action → ℕ → Entry
 action-entry (Action.input k) stamp = Entry.input k stamp
 action-entry (Action.output k) stamp = Entry.output k stamp
 
 abbrev pub entry-of : Call → Entry
 entry-of (Call.line l) = action-entry (l .action) (l .stamp)
-entry-of (Call.mark m) = Entry.gap (m .stamp)
+entry-of (Call.mark m) = Entry.gap (m .lost) (m .stamp)
 
 -- The calls of a trace's records, in order.
 abbrev pub calls-of : List Entry → List Call
