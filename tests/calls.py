@@ -87,11 +87,12 @@ def packed(p):
 
 
 def trace(*lines):
-    """('?0', 100), ('!2', 120), ('gap', 200): records with stamps less the one before."""
+    """('?0', 100), ('!2', 120), ('gap', 200), ('gap5', 200): records with stamps less the one before. A gap has its number of lost
+    lines, 0 where none is given."""
     out, latest = b"", 0
     for act, stamp in lines:
         kind = {"?": 0, "!": 1, "g": 2}[act[0]]
-        out += rec(kind, 0 if kind == 2 else int(act[1:]), stamp - latest)
+        out += rec(kind, int(act[3:] or 0) if kind == 2 else int(act[1:]), stamp - latest)
         latest = stamp
     return out
 
@@ -276,14 +277,14 @@ def L(act, stamp, want=0, verdict=None, opened=None):
     add("L", bytes([kind, number]) + word(stamp), check)
 
 
-def G(stamp, want=0, verdict=None):
+def G(stamp, want=0, verdict=None, lost=0):
     def check(c):
         def step(s):
             c.run = None
-            return standing(s), after(s, rules.GAP, 0, stamp)
+            return standing(s), after(s, rules.GAP, lost, stamp)
         stepped(c, "G", want, verdict, 0, step)
     count("G", want)
-    add("G", word(stamp), check)
+    add("G", bytes([lost]) + word(stamp), check)
 
 
 BUDGET, AT_END, REFUSED = 0, 1, 2
@@ -297,11 +298,15 @@ def hexed(b):
     return "%d:%s" % (len(b), b.hex())
 
 
-def W(budget, bytes_, taken, stop, refusal=0):
+def W(budget, bytes_, taken, stop, refusal=0, lost=None):
+    """`lost`, by hand: the last taken gap's number, 0 if there is none."""
     read = 6 * taken + (6 if stop == AT_END else 0)
+    numbers = [0] + [first & 63 for first in bytes_[:6 * taken:6] if first >> 6 == rules.GAP]
+    if lost is not None:
+        same("the number of lost lines, by hand", numbers[-1], lost)
 
     def check(c):
-        same("the answer", c.answer("W"), [str(taken), str(stop), str(refusal), str(read)] + rest_words(bytes_[read:]))
+        same("the answer", c.answer("W"), [str(v) for v in (taken, stop, refusal, read, numbers[-1])] + rest_words(bytes_[read:]))
         s, c.session = c.session, c.record()
         for i in range(taken):
             kind, action = bytes_[6 * i] >> 6, bytes_[6 * i] & 63
@@ -554,7 +559,12 @@ def lines():
     L("?0", LIMIT, 0, None, 1)
     L("?0", LIMIT + 1, 4)
     L("?0", LIMIT - 1, 5)
-    title("refusals 4 and 5 of a mark")
+    title("refusals 3, 4 and 5 of a mark, in this order")
+    for lost in (64, 65, 127, 128, 255):
+        for stamp in (LIMIT, LIMIT - 1, LIMIT + 1, 0, HUGE):
+            G(stamp, 3, lost=lost)
+    G(LIMIT - 1, 5, lost=63)
+    G(LIMIT + 1, 4, lost=63)
     G(LIMIT - 1, 5)
     G(LIMIT + 1, 4)
     G(HUGE, 4)
@@ -581,6 +591,22 @@ def lines():
     L("?0", 351, 0, 0, 1)
     G(352, 0, 0)
     L("?0", 413, 0, 0, 1)
+    G(352, 5, lost=63)
+    G(412, 3, lost=64)
+    G(413, 0, 0, 63)
+    G(413, 3, lost=64)
+    title("a mark's number of lost lines changes nothing")
+    for lost in (0, 1, 5, 62, 63):
+        for run in ([], [("?0", 100)], [("?0", 100), ("!2", 160)], [("?0", 100), ("!2", 161)]):
+            F(B)
+            for act, stamp in run:
+                L(act, stamp)
+            G(170, 0, (0, 0, 1, 2)[len(run) if run != [("?0", 100), ("!2", 161)] else 3], lost)
+            remember("a mark at 170")
+            G(175, 0, 3, 63 - lost)
+            L("!2", 235, 0, 3, 0)
+            L("?0", 296, 0, 0, 1)
+            remember("a run behind marks")
     title("a long quiet without a mark starts no new run")
     F(prop(["?0"], (1,)))
     L("?0", 0, 0, 0)
@@ -734,10 +760,10 @@ def records_of_no_calls():
         title("refusal 10: " + name)
         T(s)
         L("?0", min(s["latest"], LIMIT), 10)
-        G(min(s["latest"], LIMIT), 10)
+        G(min(s["latest"], LIMIT), 10, lost=5)
         W(0, b"", 0, REFUSED, 10)
         W(1, END, 0, REFUSED, 10)
-    title("10 before 3, 4, 5 and 6 of a line, 4 and 5 of a mark, 7, 8 and 4 of a walk")
+    title("10 before 3, 4, 5 and 6 of a line, 3, 4 and 5 of a mark, 7, 8 and 4 of a walk")
     T(full_house(100, prop(["?0"], lb=0)))
     L("?64", 100, 10)
     L("?0", LIMIT + 1, 10)
@@ -745,8 +771,12 @@ def records_of_no_calls():
     L("?0", 100, 10)
     G(LIMIT + 1, 10)
     G(99, 10)
+    for lost in (63, 64, 255):
+        G(100, 10, lost=lost)
+        G(99, 10, lost=lost)
     W(1, b"", 0, REFUSED, 10)
-    W(1, rec(2, 1, 0), 0, REFUSED, 10)
+    W(1, rec(3, 1, 0), 0, REFUSED, 10)
+    W(1, rec(2, 5, 0), 0, REFUSED, 10)
     W(1, rec(0, 0, LIMIT), 0, REFUSED, 10)
     W(HUGE, rec(0, 0, 0), 0, REFUSED, 10)
 
@@ -771,14 +801,47 @@ def walks():
     L("!2", 120, 0, 1)
     G(161, 0, 1)
     remember("parts")
+    title("the last taken gap's number of lost lines")
+    gaps = trace(("gap7", 5), ("?0", 100), ("gap0", 200), ("gap62", 200), ("!2", 261), ("gap63", 300), ("!2", 361))
+    for budget, lost in ((0, 0), (1, 7), (2, 7), (3, 0), (4, 62), (5, 62), (6, 63), (7, 63)):
+        F(B)
+        W(budget, gaps + END, budget, BUDGET, 0, lost)
+    F(B)
+    W(9, gaps + END, 7, AT_END, 0, 63)
+    remember("gaps")
+    F(B)
+    W(9, trace(("gap1", 5), ("?0", 100), ("gap2", 200), ("gap3", 200), ("!2", 261), ("gap4", 300), ("!2", 361)) + END, 7, AT_END, 0, 4)
+    remember("gaps")
+    title("in parts: the second walk's where it took a gap, else the first's")
+    F(B)
+    W(4, gaps + END, 4, BUDGET, 0, 62)
+    W(1, trace(("!2", 61)), 1, BUDGET, 0, 0)
+    W(5, rec(2, 63, 39) + rec(1, 2, 61) + END, 2, AT_END, 0, 63)
+    remember("gaps")
+    title("kept after a refusal, and a gap that is refused does not count")
+    for bad, want in ((b"", 7), (rec(2, 9, 0)[:5], 7), (rec(3, 9, 0), 8), (rec(3, 0, 9), 8), (rec(2, 9, LIMIT), 4), (rec(0, 9, LIMIT), 4)):
+        F(B)
+        W(9, trace(("gap5", 7)) + bad, 1, REFUSED, want, 5)
+        F(B)
+        W(9, trace(("gap5", 7), ("!2", 9)) + bad, 2, REFUSED, want, 5)
+        F(B)
+        W(9, trace(("gap5", 7), ("gap0", 9)) + bad, 2, REFUSED, want, 0)
+        F(B)
+        W(9, trace(("!2", 9)) + bad, 1, REFUSED, want, 0)
+    F(B)
+    W(99, trace(("gap5", 7), *[("?0", 68)] * 65) + END, 65, REFUSED, 6, 5)
+    for lost in range(64):
+        F(B)
+        W(1, rec(2, lost, 3), 1, BUDGET, 0, lost)
     title("with budget 0 left nothing more is read")
     F(B)
     W(0, b"\1\2", 0, BUDGET)
-    W(1, rec(1, 0, 0) + rec(2, 1, 0), 1, BUDGET)
+    W(1, rec(1, 0, 0) + rec(3, 1, 0), 1, BUDGET)
     W(1, rec(1, 0, 0) + b"\0", 1, BUDGET)
     title("at most 4,096 records")
-    F(B)
-    W(4097, rec(2, 0, 1) * 4098, 4096, BUDGET)
+    for budget in (4096, 4097, HUGE):
+        F(B)
+        W(budget, rec(2, 0, 1) * 4095 + rec(2, 9, 1) + rec(2, 5, 1), 4096, BUDGET, 0, 9)
     title("7 in a walk: bytes that run out")
     F(B)
     W(4, t, 3, REFUSED, 7)
@@ -790,7 +853,7 @@ def walks():
     F(B)
     W(4, t[:-1], 2, REFUSED, 7)
     title("8 in a walk")
-    for bad in (rec(2, 1, 0), rec(2, 63, 5), rec(3, 1, 0), rec(3, 0, 1)):
+    for bad in (rec(3, 63, 0), rec(3, 1, 0), rec(3, 0, 1)):
         F(B)
         W(4, trace(("?0", 5)) + bad + END, 1, REFUSED, 8)
         J(packed(B), trace(("?0", 5)) + bad + END, 8)
@@ -805,14 +868,15 @@ def walks():
     W(4, rec(2, 0, 1) + END, 0, REFUSED, 4)
     W(4, rec(2, 0, 0) + END, 1, AT_END)
     title("8 before 4, 7 before both in a walk")
-    W(4, rec(2, 1, 1), 0, REFUSED, 8)
+    W(4, rec(3, 1, 1), 0, REFUSED, 8)
     W(4, rec(3, 0, 1), 0, REFUSED, 8)
+    W(4, rec(3, 1, 1)[:5], 0, REFUSED, 7)
     W(4, rec(2, 1, 1)[:5], 0, REFUSED, 7)
 
 
 def record_reader():
     title("the record reader")
-    for kind, action in ((0, 0), (0, 63), (1, 0), (1, 63), (1, 5), (2, 0), (3, 0)):
+    for kind, action in ((0, 0), (0, 63), (1, 0), (1, 63), (1, 5), (2, 0), (2, 1), (2, 62), (2, 63), (3, 0)):
         for before, less in ((0, 0), (100, 41), (0, LIMIT), (LIMIT, 0), (1, LIMIT - 1)):
             if kind == 3 and less:
                 continue
@@ -822,29 +886,32 @@ def record_reader():
             R(before, b[:5], 7)
     R(0, b"", 7)
     title("8 of the record reader")
-    for b in (rec(2, 1, 0), rec(2, 32, 9), rec(3, 1, 0), rec(3, 63, 0), rec(3, 0, 1), rec(3, 0, 2 ** 39), rec(3, 1, 1)):
+    for b in (rec(3, 1, 0), rec(3, 63, 0), rec(3, 0, 1), rec(3, 0, 2 ** 39), rec(3, 1, 1)):
         R(7, b, 8)
         R(7, b + marked(3), 8)
+    title("each number of lost lines, read and written")
+    for lost in range(64):
+        R(7, rec(2, lost, 9), 0, 2, lost, 16)
+        S(2, lost, 16, 7, marked(7))
     title("4 of the record reader")
     for kind in (0, 1, 2):
         R(1, rec(kind, 0, LIMIT), 4)
         R(LIMIT, rec(kind, 0, 1), 4)
-        R(LIMIT + 1, rec(kind, 0, 0) + marked(3), 4)
+        R(LIMIT + 1, rec(kind, 5, 0) + marked(3), 4)
         R(HUGE, rec(kind, 0, LIMIT), 4)
     R(LIMIT, END, 0, 3, 0, LIMIT)
     R(LIMIT + 1, END, 4)
     title("7 before 8 and 4, 8 before 4")
     R(LIMIT + 1, rec(0, 0, 0)[:5], 7)
     R(0, rec(2, 1, 0)[:5], 7)
-    R(LIMIT, rec(2, 1, 1), 8)
-    R(LIMIT + 1, rec(2, 1, 0), 8)
+    R(LIMIT, rec(3, 1, 1), 8)
     R(LIMIT + 1, rec(3, 1, 0), 8)
     R(LIMIT + 1, rec(3, 0, 1), 8)
 
 
 def tap_reader():
     acts = (0, 0), (0, 63), (1, 5), (2, 0)
-    title("the card's record reader: the stamp before, the counter and the stamp")
+    title("the card's record reader: the stamp before, the counter and the stamp; a gap counts as 63")
     for before, counter, stamp in (
             (0, 0, 0), (0, 1, 1), (0, 2_147_483_648, 2_147_483_648), (0, LAST, 4_294_967_295),
             (1, 1, 1), (1, 2, 2), (1, LAST, 4_294_967_295), (1, 0, 4_294_967_296),
@@ -857,14 +924,14 @@ def tap_reader():
             (1_095_216_660_480, 0, 1_095_216_660_480), (1_095_216_660_480, LAST, 1_099_511_627_775),
             (LIMIT - 1, LAST - 1, 1_099_511_627_774), (LIMIT - 1, LAST, 1_099_511_627_775), (LIMIT, LAST, 1_099_511_627_775)):
         for kind, action in acts:
-            K(before, tap(kind, action, counter), 0, kind, action, stamp)
+            K(before, tap(kind, action, counter), 0, kind, 63 if kind == 2 else action, stamp)
     title("an end of the card's")
     for before in (0, 1, LAST, TURN, LIMIT):
         K(before, TAP_END, 0, 3, 0, before)
     title("the rest behind a record of the card's")
     for size in (1, 2, 3, 15, 16, 17):
         K(LAST, tap(1, 63, 0) + marked(size), 0, 1, 63, TURN)
-        K(LAST, tap(2, 0, LAST) + marked(size), 0, 2, 0, LAST)
+        K(LAST, tap(2, 0, LAST) + marked(size), 0, 2, 63, LAST)
         K(LAST, TAP_END + marked(size), 0, 3, 0, LAST)
         K(LAST, tap(2, 1, 0) + marked(size), 8)
         K(LIMIT, tap(0, 1, 0) + marked(size), 4)
@@ -900,7 +967,7 @@ def tap_reader():
 
 def record_writer():
     title("the record writer")
-    for kind, action in ((0, 0), (0, 63), (1, 0), (1, 63), (2, 0), (3, 0)):
+    for kind, action in ((0, 0), (0, 63), (1, 0), (1, 63), (2, 0), (2, 5), (2, 63), (3, 0)):
         for stamp, before in ((0, 0), (141, 100), (100, 100), (LIMIT, 0), (LIMIT, LIMIT), (LIMIT, 1)):
             if kind == 3 and stamp != before:
                 continue
@@ -908,20 +975,20 @@ def record_writer():
             S(kind, action, stamp, before, marked(9))
             S(kind, action, stamp, before, marked(5), 9)
             S(kind, action, stamp, before, b"", 9)
-    title("8 of the record writer: kind, gap, end")
+    title("8 of the record writer: kind, end")
     for kind, action, stamp, before in (
-            (4, 0, 0, 0), (5, 0, 0, 0), (255, 0, 0, 0), (2, 1, 0, 0), (2, 63, 5, 0), (3, 1, 0, 0), (3, 0, 1, 0), (3, 0, 0, 1),
+            (4, 0, 0, 0), (5, 0, 0, 0), (255, 0, 0, 0), (3, 1, 0, 0), (3, 0, 1, 0), (3, 0, 0, 1),
             (3, 0, 100, 99),
             # before 3
-            (4, 64, 0, 0), (2, 64, 0, 0), (3, 64, 0, 0),
+            (4, 64, 0, 0), (3, 64, 0, 0),
             # before 4
-            (4, 0, LIMIT + 1, 0), (4, 0, 0, LIMIT + 1), (2, 1, LIMIT + 1, 0), (3, 1, LIMIT + 1, LIMIT + 1), (3, 0, LIMIT + 1, LIMIT),
+            (4, 0, LIMIT + 1, 0), (4, 0, 0, LIMIT + 1), (3, 1, LIMIT + 1, LIMIT + 1), (3, 0, LIMIT + 1, LIMIT),
             # before 5
-            (4, 0, 5, 6), (2, 1, 5, 6), (3, 0, 5, 6)):
+            (4, 0, 5, 6), (3, 0, 5, 6)):
         S(kind, action, stamp, before, marked(8), 8)
         S(kind, action, stamp, before, marked(5), 8)
-    title("3 of the record writer")
-    for kind in (0, 1):
+    title("3 of the record writer, also for a number of lost lines")
+    for kind in (0, 1, 2):
         S(kind, 64, 5, 5, marked(7), 3)
         S(kind, 255, 5, 5, marked(5), 3)
         S(kind, 64, LIMIT + 1, 5, marked(7), 3)
@@ -984,11 +1051,14 @@ def judge():
     J(b, END, 0, 0, 0)
     J(b, run + END, 0, 2, 2)
     J(b, run + trace(("gap", 0)) + END, 0, 3, 3)
+    for lost in (1, 5, 62, 63):
+        J(b, run + rec(2, lost, 0) + END, 0, 3, 3)
+        J(b, rec(2, lost, 0) + trace(("?0", 100), ("!2", 160)) + END, 0, 1, 3)
     for bad, want in ((b"", 7), (b[:-1], 7), (padded, 8), (packed(prop([])), 1), (packed(prop(["?0"] * 32, n=33)), 1),
                       (packed(prop(["?0"], lb=0)), 2), (packed(prop(["?0"], ub=60_000_001)), 2), (b + b"\0", 8)):
         J(bad, run + END, want)
         J(bad, b"", want)
-        J(bad, rec(2, 1, 0), want)
+        J(bad, rec(3, 1, 0), want)
         J(bad, run + END + b"\0", want)
     title("a property refused, with bytes behind it")
     J(packed(prop([])) + b"\0", END, 1)
@@ -1004,10 +1074,11 @@ def judge():
     J(b, rec(0, 0, LIMIT) + rec(1, 1, 0) + END, 0, 0, 2)
     title("the judge: the first refusal met")
     J(b, rec(0, 0, LIMIT) + rec(1, 0, 1), 4)
-    J(b, rec(0, 0, LIMIT) + rec(2, 1, 1) + END + b"\0", 8)
-    J(b, rec(1, 0, 1) + rec(0, 0, LIMIT) + rec(2, 1, 0), 4)
+    J(b, rec(0, 0, LIMIT) + rec(3, 1, 1) + END + b"\0", 8)
+    J(b, rec(0, 0, LIMIT) + rec(2, 1, 1) + END + b"\0", 4)
+    J(b, rec(1, 0, 1) + rec(0, 0, LIMIT) + rec(3, 1, 0), 4)
+    # 16,383 records have no room here: tests/edges.c has them
     title("refusal 9 of the one number, behind 16,383 records")
-    J(b, rec(2, 0, 0) * 16383 + END, 0, 3, 16383)
     J(b, rec(2, 0, 0) * 16384 + END, 0, 3, 16384)
 
 

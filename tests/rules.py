@@ -11,6 +11,7 @@ LIMIT = 2 ** 40 - 1
 HIGHEST_BOUND = 60_000_000
 MOST_ACTIONS = 32
 MOST_OPEN = 64
+MOST_LOST = 63  # of a gap's number of lost lines: more, or unknown
 TURN = 2 ** 32  # the tap card's counter returns to 0 there
 INPUT, OUTPUT, GAP, END = range(4)
 CLEAR, SUSPECT, CERTAIN, BLIND = range(4)
@@ -74,12 +75,12 @@ def read_property(data):
 
 
 def read_form(data, before, size, less):
-    """Refusal, kind, action and stamp of the record of `size` bytes at the front; `less` finds how far its stamp is behind the one
-    before."""
+    """Refusal, kind, action (of a gap its number of lost lines) and stamp of the record of `size` bytes at the front; `less` finds
+    how far its stamp is behind the one before."""
     if len(data) < size:
         return 7, 0, 0, 0
     kind, action, field = data[0] >> 6, data[0] & 63, int.from_bytes(data[1:size], "big")
-    if kind == GAP and action or kind == END and (action or field):
+    if kind == END and (action or field):
         return 8, 0, 0, 0
     stamp = before if kind == END else before + less(field)
     if stamp > LIMIT:
@@ -92,8 +93,11 @@ def read_record(data, before):
 
 
 def read_tap(data, before):
-    """A record of the tap card, whose field is a counter."""
-    return read_form(data, before, 5, lambda counter: (counter - before) % TURN)
+    """A record of the tap card, whose field is a counter, and whose gaps have action 0 and count as 63."""
+    if len(data) >= 5 and data[0] >> 6 == GAP and data[0] & 63:
+        return 8, 0, 0, 0
+    refusal, kind, action, stamp = read_form(data, before, 5, lambda counter: (counter - before) % TURN)
+    return refusal, kind, action if refusal or kind != GAP else MOST_LOST, stamp
 
 
 # ---- what could have happened at the node, listed

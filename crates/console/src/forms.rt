@@ -70,12 +70,12 @@ fn write_property(args: &[u8], out: &mut Page) -> Done {
     leave(arguments::string_rest(given), printed)
 }
 
-// What a record reader answered: refusal, kind, action, stamp.
+// What a record reader answered: refusal, kind, action (of a gap its number of lost lines), stamp.
 fn read_numbers(r: RecordRead) -> [u64; 4] {
     match r {
         RecordRead::Input(action, stamp) => [0, 0, fields::wide(action), stamp],
         RecordRead::Output(action, stamp) => [0, 1, fields::wide(action), stamp],
-        RecordRead::Gap(stamp) => [0, 2, 0, stamp],
+        RecordRead::Gap(lost, stamp) => [0, 2, fields::wide(lost), stamp],
         RecordRead::End(stamp) => [0, 3, 0, stamp],
         RecordRead::Refused(number) => [number, 0, 0, 0],
     }

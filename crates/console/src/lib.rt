@@ -43,22 +43,24 @@ fn call_line(args: &[u8], s: Session, out: &mut Page) -> Called {
 }
 
 fn call_mark(args: &[u8], s: Session, out: &mut Page) -> Called {
-    let r = session::mark(s, arguments::word_at(args, 0));
-    after_step(arguments::behind(args, 8), out, b"G", r)
+    let lost = arguments::byte(args, 0);
+    let r = session::mark(s, lost, arguments::word_at(args, 1));
+    after_step(arguments::behind(args, 9), out, b"G", r)
 }
 
-// A walk: the number taken; how it stopped, 0 by its budget, 1 at an end, 2 at a refusal; the refusal; the bytes read.
-fn walk_numbers(taken: u64, stop: Stop, read: u64) -> [u64; 4] {
+// A walk: the number taken; how it stopped, 0 by its budget, 1 at an end, 2 at a refusal; the refusal; the bytes read; the last taken
+// gap's number of lost lines.
+fn walk_numbers(taken: u64, stop: Stop, read: u64, lost: u64) -> [u64; 5] {
     match stop {
-        Stop::Budget => [taken, 0, 0, read],
-        Stop::End => [taken, 1, 0, read],
-        Stop::Refused(number) => [taken, 2, number, read],
+        Stop::Budget => [taken, 0, 0, read, lost],
+        Stop::End => [taken, 1, 0, read, lost],
+        Stop::Refused(number) => [taken, 2, number, read, lost],
     }
 }
 
 fn put_walked(out: &mut Page, trace: &[u8], r: Walked) -> usize {
     let stop = r.stop;
-    let numbers = walk_numbers(r.taken as u64, stop, r.read as u64);
+    let numbers = walk_numbers(r.taken as u64, stop, r.read as u64, fields::wide(r.lost));
     let told = text::put_numbers(out, 0, b"W", &numbers);
     text::put_rest(out, told, walk::walk_rest(trace, r.read))
 }
