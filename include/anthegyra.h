@@ -22,7 +22,8 @@
  * Gaps. A gap mark closes the run, and the answer is of the last run alone: what was certain before the
  * mark is not in it. So judge the stretch up to each gap mark too, with an end record in the mark's
  * place. After a mark the answer is blind until a line comes more than 2 * UB after every stamp before
- * it; that line begins a new run.
+ * it; that line begins a new run. A mark says how many lines were lost, 0 to 62, or 63 for more or
+ * unknown; no answer depends on it.
  *
  * Longer logs. Behind 16,383 records begin the next stretch with a gap mark at the last stamp of the one
  * before, and go on with the lines behind that. A stretch that began with those lines alone could
@@ -40,8 +41,9 @@
 #include <stdint.h>
 
 /* One more whenever the call, its numbers or what they mean, a name here or a packed form changes. Since
-   2 a message on its way to the node does not end what the sequence began. */
-#define ANTHEGYRA_VERSION 2
+   2 a message on its way to the node does not end what the sequence began; since 3 the 6 bits of action of
+   a gap mark are the number of lost lines, and none of them is refused. */
+#define ANTHEGYRA_VERSION 3
 
 /* What the orders of events at the node that fit the stamps have in common. */
 enum anthegyra_verdict_number {
@@ -55,13 +57,14 @@ enum anthegyra_refusal_number {
     ANTHEGYRA_TAKEN = 0,
     ANTHEGYRA_LENGTH = 1,      /* the sequence's length is 0 or above 32 */
     ANTHEGYRA_BOUNDS = 2,      /* the bounds are outside 1 <= LB <= UB <= 60,000,000 */
-    ANTHEGYRA_ACTION = 3,      /* an action number above 63: never from this call, six bits hold none */
+    ANTHEGYRA_ACTION = 3,      /* an action or a number of lost lines above 63: never from this call,
+                                  six bits hold none */
     ANTHEGYRA_STAMP_LIMIT = 4, /* a stamp passes 1,099,511,627,775 */
     ANTHEGYRA_STAMP_FALLS = 5, /* a stamp below the latest: never from this call, stamps are added up */
     ANTHEGYRA_ROOM = 6,        /* more than 64 inputs would be open; put a gap mark for the line */
     ANTHEGYRA_MISSING = 7,     /* bytes are missing: in the property, in a record, or the end record */
-    ANTHEGYRA_BROKEN = 8,      /* pad bits that are not zero, a gap mark with an action, an end record
-                                  with an action or a stamp, bytes behind the property or the end record */
+    ANTHEGYRA_BROKEN = 8,      /* pad bits that are not zero, an end record with an action or a stamp,
+                                  bytes behind the property or the end record */
     ANTHEGYRA_TOO_LONG = 9,    /* nothing else is wrong, but there are more than 16,383 records to count */
     ANTHEGYRA_SESSION = 10     /* a session record out of range: never from this call, none is given */
 };

@@ -40,7 +40,7 @@ struct property {
     uint64_t lb, ub;
 };
 
-struct line { /* or a gap mark, with action 0 */
+struct line { /* or a gap mark, with the number of lost lines for its action's */
     struct action action;
     uint64_t stamp;
 };

@@ -111,7 +111,6 @@ static unsigned record_refusal(const uint8_t *record, uint64_t latest)
 {
     unsigned kind = record[0] >> 6, action = record[0] & 63;
     uint64_t stamp = field(record, 8, 40);
-    if (kind == GAP && action != 0) return 8;
     if (kind == END && (action != 0 || stamp != 0)) return 8;
     if (latest + stamp > HIGHEST_STAMP) return 4;
     return 0;
@@ -264,7 +263,7 @@ static void random_lines(struct input *in, const struct pool *pool, size_t size,
         struct action a = from_pool(pool);
         if (one_in(8)) a = in->p.sequence[in->lines % in->p.length];
         if (crowded && in->lines > 0 && !one_in(16)) stamp = lines[in->lines - 1].stamp;
-        if (gaps && one_in(16)) put_line(in, GAP, 0, stamp);
+        if (gaps && one_in(16)) put_line(in, GAP, any_action_number(), stamp);
         else put_line(in, a.kind, a.number, stamp);
     }
 }
@@ -292,7 +291,7 @@ static void crowd(struct input *in)
     in->lines = 0;
     start = one_in(8) ? HIGHEST_STAMP - below(4 * in->p.ub) : below(100);
     if (one_in(3)) {
-        put_line(in, GAP, 0, start);
+        put_line(in, GAP, any_action_number(), start);
         start += 2 * in->p.ub + below(2); /* still blind, or the boundary */
     }
     stamp = start;
@@ -321,7 +320,7 @@ static void long_trace(struct input *in, size_t size)
     for (uint64_t stamp = 0; in->lines < size; stamp += below(3)) {
         struct action a = from_pool(&pool);
         if (one_in(1000)) stamp += 2 * in->p.ub;
-        if (one_in(4000)) put_line(in, GAP, 0, stamp);
+        if (one_in(4000)) put_line(in, GAP, any_action_number(), stamp);
         else put_line(in, outputs_only ? OUTPUT : a.kind, a.number, stamp);
     }
     pack(in);
@@ -381,10 +380,11 @@ static void spoil_length(struct input *in)
     in->property_len = pack_property(&in->p, in->property);
 }
 
-static void spoil_mark(struct input *in)
+/* A gap mark in a record's place, with any number of lost lines. */
+static void mark_somewhere(struct input *in)
 {
     if (in->trace_len < RECORD) return;
-    in->trace[record_somewhere(in)] = (uint8_t)(GAP << 6 | (one_in(4) ? 0 : 1u << below(6)));
+    in->trace[record_somewhere(in)] = (uint8_t)(GAP << 6 | any_action_number());
 }
 
 static void spoil_end(struct input *in)
@@ -436,7 +436,7 @@ static void any_bytes(struct input *in)
 
 static void (*const damages[])(struct input *) = {
     cut_property, cut_trace, flip_property, flip_trace, spoil_pad, spoil_bounds, spoil_length,
-    spoil_mark, spoil_end, reach_limit, reach_limit, behind_property, behind_end, any_bytes,
+    mark_somewhere, spoil_end, reach_limit, reach_limit, behind_property, behind_end, any_bytes,
 };
 
 static void random_input(struct input *in)

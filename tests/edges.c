@@ -49,9 +49,9 @@ static void show_cuts(void)
     const struct line whole[] = {
         {{INPUT, 7}, 180}, {{OUTPUT, 5}, 200}, {{OUTPUT, 6}, 200}, {{OUTPUT, 2}, 201}};
     const struct line marked[] = {
-        {{GAP, 0}, 180}, {{OUTPUT, 5}, 200}, {{OUTPUT, 6}, 200}, {{OUTPUT, 2}, 201}};
+        {{GAP, 63}, 180}, {{OUTPUT, 5}, 200}, {{OUTPUT, 6}, 200}, {{OUTPUT, 2}, 201}};
     const struct line quiet[] = {
-        {{GAP, 0}, 201}, {{OUTPUT, 5}, 262}, {{OUTPUT, 6}, 262}, {{OUTPUT, 2}, 263}};
+        {{GAP, 1}, 201}, {{OUTPUT, 5}, 262}, {{OUTPUT, 6}, 262}, {{OUTPUT, 2}, 263}};
     const struct line closed[] = {
         {{OUTPUT, 5}, 200}, {{OUTPUT, 6}, 200}, {{OUTPUT, 2}, 201}, {{GAP, 0}, 300}};
     use_property(&p);
@@ -70,7 +70,7 @@ int main(void)
     const struct line clear[] = {{{INPUT, 0}, 100}, {{OUTPUT, 2}, 119}};
     const struct line suspect[] = {{{INPUT, 0}, 100}, {{OUTPUT, 2}, 160}};
     const struct line certain[] = {{{INPUT, 0}, 100}, {{OUTPUT, 2}, 161}};
-    const struct line blind[] = {{{INPUT, 0}, 100}, {{GAP, 0}, 200}, {{OUTPUT, 2}, 260}};
+    const struct line blind[] = {{{INPUT, 0}, 100}, {{GAP, 5}, 200}, {{OUTPUT, 2}, 260}};
     use_property(&b);
 
     show("both null", NULL, 0, NULL, 0);

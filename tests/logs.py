@@ -72,6 +72,11 @@ def near(rng, latest):
     return rng.choice([0, 1, 2, 3, 5, 8, 13, 20])
 
 
+def some_lost(rng):
+    """A gap's number of lost lines."""
+    return rng.choice([0, 1, 62, 63, rng.randrange(64)])
+
+
 def whole(rng, highest=1, step=near):
     """Action numbers up to `highest`. `step` draws how far a stamp is behind the latest."""
     lower = rng.randint(1, 4)
@@ -82,15 +87,25 @@ def whole(rng, highest=1, step=near):
     data, latest = rules.pack_property(rules.Property(sequence, allowed, lower, upper)), 0
     for _ in range(rng.randint(0, 9)):
         kind = rng.choice([0, 0, 0, 1, 1, 1, 1, 2])
-        action = 0 if kind == rules.GAP else rng.randint(0, highest)
+        action = some_lost(rng) if kind == rules.GAP else rng.randint(0, highest)
         less = step(rng, latest)
         latest += less
         data += rules.pack_record(kind, action, less)
     return data + rules.END_RECORD
 
 
+def unknown(data):
+    """A whole log with the number of lost lines unknown at each gap, as the tap card leaves it."""
+    _, _, at = rules.read_property(data)
+    marked = data[:at]
+    for at in range(at, len(data), 6):
+        kind = data[at] >> 6
+        marked += (bytes([kind << 6 | rules.MOST_LOST]) if kind == rules.GAP else data[at:at + 1]) + data[at + 1:at + 6]
+    return marked
+
+
 def as_card(data):
-    """A whole log as the tap card sends it, if the card can say it."""
+    """A whole log as the tap card sends it, if the card can say it: a gap's number it cannot."""
     _, _, at = rules.read_property(data)
     card, latest = data[:at], 0
     while True:
@@ -98,7 +113,7 @@ def as_card(data):
         assert not refusal and stamp < latest + rules.TURN
         if kind == rules.END:
             return card + rules.TAP_END
-        card += rules.pack_tap(kind, action, stamp % rules.TURN)
+        card += rules.pack_tap(kind, 0 if kind == rules.GAP else action, stamp % rules.TURN)
         at, latest = at + 6, stamp
 
 
@@ -123,7 +138,7 @@ def damaged(rng, data, size=6):
         at = len(data) - size * rng.randint(1, 2)
         data[max(at, 17) + 1:max(at, 17) + 1] = b'\xff' * rng.randint(1, 6)
     elif how == 4:
-        data[-size:] = bytes([rng.choice([0xC1, 0x81, 0xC0, 0x80])]) + bytes([rng.choice([0, 255])]) * (size - 1)
+        data[-size:] = bytes([rng.choice([0xC1, 0x81, 0xBF, 0xC0, 0x80])]) + bytes([rng.choice([0, 255])]) * (size - 1)
     return bytes(data) + bytes(rng.randrange(256) for _ in range(rng.choice([0, 0, 7])))
 
 

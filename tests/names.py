@@ -34,7 +34,7 @@ class Runs(logs.Runs):
 # ---- fixed cases
 
 FORM = rules.pack_property(rules.Property([(False, 0)], 2, 10, 30))
-LOG = (FORM + pack_record(INPUT, 0, 100) + pack_record(OUTPUT, 0, 61) + pack_record(GAP, 0, 10) + pack_record(INPUT, 63, 70)
+LOG = (FORM + pack_record(INPUT, 0, 100) + pack_record(OUTPUT, 0, 61) + pack_record(GAP, 7, 10) + pack_record(INPUT, 63, 70)
        + pack_record(OUTPUT, 63, 0) + END_RECORD)
 GOOD = pack_names({(False, 0): b'in', (True, 0): b'out', (True, 63): b'last'})
 
@@ -109,7 +109,7 @@ def fixed(runs):
         check(f'the release: {what}', b'', packed, 'end 5')
 
     # which list is asked, and for what
-    lines = ['1 I 0 {} 100 clear 1', '2 O 0 {} 161 certain 0', '3 G 0 {} 171 blind 0', '4 I 63 {} 241 clear 1', '5 O 63 {} 241 clear 1']
+    lines = ['1 I 0 {} 100 clear 1', '2 O 0 {} 161 certain 0', '3 G 7 {} 171 blind 0', '4 I 63 {} 241 clear 1', '5 O 63 {} 241 clear 1']
     other = pack_names({(False, 0): b'IN', (False, 63): b'LAST'})
     for site, release, told in ((b'', b'', '- - - - -'), (GOOD, b'', 'in out - - last'), (b'', GOOD, 'in out - - last'),
                                 (GOOD, other, 'in out - LAST last'), (other, GOOD, 'IN out - LAST last'),

@@ -146,7 +146,7 @@ static size_t random_log(const struct property *p, const struct pool *pool, stru
         log[i].action = random_action(p, pool, i);
         if (gaps > 0 && one_in(6)) {
             log[i].action.kind = GAP;
-            log[i].action.number = 0;
+            log[i].action.number = any_action_number(); /* of lost lines: nothing depends on it */
             gaps--;
         }
     }
@@ -175,7 +175,9 @@ static void print_stretch(const struct property *p, const struct line *log, size
     printf("\n");
     for (size_t i = 0; i < n; i++) {
         print_action(log[i].action);
-        printf(" @%llu\n", (unsigned long long)log[i].stamp);
+        printf(" @%llu", (unsigned long long)log[i].stamp);
+        if (log[i].action.kind == GAP) printf(" lost %u", log[i].action.number);
+        printf("\n");
     }
 }
 

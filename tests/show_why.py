@@ -48,11 +48,11 @@ FORM = rules.pack_property(B)
 
 
 def records(*lines):
-    """Each an action or 'gap', and the stamp."""
+    """Each an action or 'gap', and the stamp. A gap's number of lost lines is some number, which nothing depends on."""
     data, latest = b'', 0
     for act, stamp in lines:
         kind = {'?': INPUT, '!': OUTPUT, 'g': GAP}[act[0]]
-        data += pack_record(kind, 0 if kind == GAP else int(act[1:]), stamp - latest)
+        data += pack_record(kind, stamp % 64 if kind == GAP else int(act[1:]), stamp - latest)
         latest = stamp
     return data
 
@@ -160,8 +160,7 @@ def refusals(runs):
         runs.check(f'{size} bytes of a property', FORM[:size], ['stop 7'])
     longest = rules.pack_property(rules.Property([(True, 63)] * 32, 0, 1, 1))
     runs.check('the longest property', longest + END_RECORD + BEHIND, ['clear 0'])
-    broken = {'an end with an action': pack_record(END, 1, 0), 'an end with a stamp': pack_record(END, 0, 1),
-              'a gap with an action': pack_record(GAP, 1, 4)}
+    broken = {'an end with an action': pack_record(END, 1, 0), 'an end with a stamp': pack_record(END, 0, 1)}
     # a run that is open, none, one that is certain
     for front in ([], [('?0', 100)], [('?0', 100), ('gap', 150)], [('?0', 100), ('!2', 161)]):
         data = FORM + records(*front)
@@ -188,7 +187,7 @@ def middling(rng):
     for _ in range(size):
         kind = GAP if rng.random() < .5 / size else rng.choice([INPUT, OUTPUT])
         less = 2 * p.ub + 1 if rng.random() < .02 else rng.choice([0, 1, 2, 3, 5, 8, 13])
-        data += pack_record(kind, 0 if kind == GAP else rng.randrange(2), less)
+        data += pack_record(kind, logs.some_lost(rng) if kind == GAP else rng.randrange(2), less)
     return data + END_RECORD
 
 

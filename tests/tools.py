@@ -155,7 +155,7 @@ def long_log(records, seed, before=b''):
     for i in range(records):
         # every fifty records or so the run is closed, since a run stays certain once it is
         if rng.random() < .02:
-            data += pack_record(GAP, 0, rng.randrange(30)) + pack_record(INPUT, 1, 19)
+            data += pack_record(GAP, i % 64, rng.randrange(30)) + pack_record(INPUT, 1, 19)
         data += pack_record(rng.randrange(2), rng.choice([0, 0, 1, 1, 2]), rng.choice([0, 1, 2, 4, 7, 12, 20]))
     return data + END_RECORD
 
@@ -179,8 +179,8 @@ def listing_status(folder):
         same(f'the listing of {path}', out.decode().split('\n'), want + [''])
         same(f'the status of {path}', status, 1 if want[-1].startswith('stop') else 0)
         same(f'messages for {path}', said, '')
-    for words, gap in (([], pack_record(GAP, 1, 0)), (['--tap'], pack_tap(GAP, 1, 0))):
-        for data, last in ((b'', 'stop 0 7'), (b'\0' * 71, 'stop 0 1'), (rules.pack_property(B) + gap, 'stop 0 8')):
+    for words, broken in (([], pack_record(END, 1, 0)), (['--tap'], pack_tap(GAP, 1, 0))):
+        for data, last in ((b'', 'stop 0 7'), (b'\0' * 71, 'stop 0 1'), (rules.pack_property(B) + broken, 'stop 0 8')):
             status, out, _ = made.run(*words, data=data)
             same('the status of a refusal', (status, out.decode().split('\n')[-2]), (1, last))
 
@@ -294,7 +294,7 @@ def listing_leaves_input(folder):
             (([made.listing, '--tap'], commands[1]), pack_tap, TAP_END, card_at_limit() + pack_tap(OUTPUT, 0, 0), 257)):
         for data, last in ((form + end, 'end 0'),
                            (form + pack(INPUT, 0, 100) + end, 'end 1'),
-                           (form + pack(INPUT, 0, 100) + pack(GAP, 1, 0), 'stop 1 8'),
+                           (form + pack(INPUT, 0, 100) + pack(END, 1, 0), 'stop 1 8'),
                            (form + pack(END, 0, 1), 'stop 0 8'),
                            (form + past, f'stop {taken} 4'),
                            (form + pack(INPUT, 0, 0) * 65, 'stop 64 6'),
@@ -596,12 +596,13 @@ def listing_names_live(folder):
         packer.stdout.close()
         packer.stdin.write(TEXT)
         same('the header', some_line(lister.stdout), header)
-        for text, line in ((b'?0 @100\n', '1 I 0 go 100 clear 1\n'), (b'gap @110\n', '2 G 0 - 110 blind 0\n'),
-                           (b'!2 @171\n', '3 O 2 broken 171 clear 0\n')):
+        for text, line in ((b'?0 @100\n', '1 I 0 go 100 clear 1\n'), (b'gap @110 lost 0\n', '2 G 0 - 110 blind 0\n'),
+                           (b'gap @110 lost 62\n', '3 G 62 - 110 blind 0\n'), (b'gap @110\n', '4 G 63 - 110 blind 0\n'),
+                           (b'!2 @171\n', '5 O 2 broken 171 clear 0\n')):
             packer.stdin.write(text)
             same('a line of a growing log', some_line(lister.stdout), line)
         packer.stdin.close()
-        same('its last line', some_line(lister.stdout), 'end 3\n')
+        same('its last line', some_line(lister.stdout), 'end 5\n')
         same('their statuses', (packer.wait(SHORT), lister.wait(SHORT)), (0, 0))
     # a log that comes byte by byte, and one that does not block
     for blocks in (True, False):
@@ -842,8 +843,8 @@ def follow(*words):
     return started([PACK, '--follow'] + list(words), stdin=subprocess.PIPE, stderr=subprocess.PIPE)
 
 
-def follow_lines(words, lines, bad, last):
-    """Lines with their records, then an end of the input, an end of the text or bad text."""
+def follow_lines(words, lines, bad, last, line):
+    """Lines with their records, then an end of the input, an end of the text or bad text, which is at this line."""
     form = rules.pack_property(B)
     for end in (b'', b'end\n', *bad):
         with follow(*words) as live:
@@ -861,17 +862,19 @@ def follow_lines(words, lines, bad, last):
             same(f'what comes last after {end!r}', live.stdout.read(), b'' if end in bad else last)
             said = live.stderr.read().decode()
             if end in bad:
-                message('bad text', said, 'pack: line 8: ')
+                message('bad text', said, f'pack: line {line}: ')
             else:
                 same('messages', said, '')
 
 
 def pack_follow(folder):
-    follow_lines([], ((b'?0 @100\n', pack_record(INPUT, 0, 100)), (b'gap @100\r\n', pack_record(GAP, 0, 0)),
-                      (b'!2 @161\n', pack_record(OUTPUT, 2, 61))), (b'!2 @160\n', b'nonsense\n'), END_RECORD)
+    follow_lines([], ((b'?0 @100\n', pack_record(INPUT, 0, 100)), (b'gap @100\r\n', pack_record(GAP, 63, 0)),
+                      (b'gap @100 lost 5\r\n', pack_record(GAP, 5, 0)), (b'!2 @161\n', pack_record(OUTPUT, 2, 61))),
+                 (b'!2 @160\n', b'nonsense\n', b'gap @161 lost x\n'), END_RECORD, 9)
     follow_lines(['--tap'], ((b'?0 @4294967290\n', pack_tap(INPUT, 0, 4_294_967_290)),
                              (b'gap @4294967290\r\n', pack_tap(GAP, 0, 4_294_967_290)),
-                             (b'!2 @4294967300\n', pack_tap(OUTPUT, 2, 4))), (b'!2 @4294967299\n', b'!2 @8589934596\n'), TAP_END)
+                             (b'!2 @4294967300\n', pack_tap(OUTPUT, 2, 4))),
+                 (b'!2 @4294967299\n', b'!2 @8589934596\n', b'gap @4294967300 lost 5\n'), TAP_END, 8)
     # memory: the highest seen, before the input ends
     highest = {}
     for lines in (1000, 100_000):
@@ -901,6 +904,29 @@ def pack_follow(folder):
             packer.stdin.close()
             same('its last line', some_line(lister.stdout), 'end 2\n')
             same('their statuses', (packer.wait(SHORT), lister.wait(SHORT)), (0, 0))
+
+
+def pack_lost(folder):
+    """How many lines were lost: as it is up to 62, 63 for more or unknown, and the card says only that."""
+    for words, lost in (('', 63), (' lost 0', 0), (' lost 1', 1), (' lost 5', 5), (' lost 62', 62), (' lost 63', 63), (' lost 64', 63),
+                        (' lost 250', 63), (' lost 18446744073709551615', 63), ('   lost  007 # seven', 7)):
+        text = f'?1 @7\ngap @200{words}\n'.encode()
+        want = pack_record(INPUT, 1, 7) + pack_record(GAP, lost, 193) + END_RECORD
+        same(f'gap{words}', run([PACK, '--trace'], text), (0, want, ''))
+        shown = b'?1 @7\ngap @200%s\nend\n' % (b'' if lost == 63 else b' lost %d' % lost)
+        same(f'gap{words}, back', run([UNPACK, '--trace'], want), (0, shown, ''))
+        status, out, said = run([PACK, '--trace', '--tap'], text)
+        if lost == 63:
+            same(f"the card's gap{words}", (status, out, said), (0, pack_tap(INPUT, 1, 7) + pack_tap(GAP, 0, 200) + TAP_END, ''))
+        else:
+            same(f"the card's gap{words}", (status, out), (1, b''))
+            message(f"the card's gap{words}", said, 'pack: line 2: ', f'that {lost} lines were lost', 'Leave out --tap')
+    for text, told in ((b'gap @200 lost', 'expected'), (b'gap @200 lost -1', "'-1' is not"), (b'gap @200 lost x', "'x' is not"),
+                       (b'gap @200 lost 5 6', 'expected'), (b'gap lost 5 @200', 'expected'), (b'gap 5 @200', 'expected'), (b'?0 @200 lost 5', 'expected'),
+                       (b'gap @200 lost 18446744073709551616', 'at most')):
+        status, out, said = run([PACK, '--trace'], text + b'\n')
+        same(f'{text}: status and output', (status, out), (1, b''))
+        message(str(text), said, 'pack: line 1: ', told)
 
 
 def pack_card(folder):
@@ -949,7 +975,7 @@ def unpack_back(folder):
         for allowed in (0, 2 ** 64 - 1, rng.getrandbits(64)):
             lb = rng.choice([1, 60_000_000, rng.randrange(1, 60_000_000)])
             p = rules.Property([(rng.random() < .5, rng.randrange(64)) for _ in range(n)], allowed, lb, rng.choice([lb, 60_000_000]))
-            lines = b''.join(pack_record(kind, 0 if kind == GAP else rng.randrange(64), rng.choice([0, 1, rng.randrange(2 ** 30)]))
+            lines = b''.join(pack_record(kind, rng.choice([0, 62, 63, rng.randrange(64)]), rng.choice([0, 1, rng.randrange(2 ** 30)]))
                              for kind in [rng.randrange(3) for _ in range(rng.randrange(20))])
             forms.append(rules.pack_property(p) + lines + END_RECORD)
     forms.append(rules.pack_property(B) + pack_record(OUTPUT, 63, LIMIT) + pack_record(GAP, 0, 0) + END_RECORD)
@@ -960,6 +986,7 @@ def unpack_back(folder):
         # the last is not for the card
         if data != forms[-1]:
             sent = logs.as_card(data)
+            text = run([UNPACK], logs.unknown(data))[1]
             same("unpacking the card's", run([UNPACK, '--tap'], sent), (0, text, ''))
             same(f"the way there and back of the card's {sent[:60].hex()}", run([PACK, '--tap'], text), (0, sent, ''))
     card, sent = ['--tap'], logs.as_card(run([PACK, CARD_TEXT])[1])
@@ -981,7 +1008,7 @@ def unpack_back(folder):
                               ([], b'\0' * 16 + END_RECORD, 'refusal 1: '), ([], rules.pack_property(B, 33) + END_RECORD, 'refusal 1: '),
                               ([], rules.pack_property(B._replace(lb=0)) + END_RECORD, 'refusal 2: '),
                               ([], rules.pack_property(B._replace(ub=60_000_001)) + END_RECORD, 'refusal 2: '),
-                              ([], form + pack_record(INPUT, 0, 0) + pack_record(GAP, 1, 0) + END_RECORD, 'refusal 8: record 2, at byte 23'),
+                              ([], form + pack_record(INPUT, 0, 0) + pack_record(END, 1, 0) + END_RECORD, 'refusal 8: record 2, at byte 23'),
                               ([], form + pack_record(END, 1, 0), 'refusal 8: record 1'), ([], form + pack_record(END, 0, 1), 'refusal 8: record 1'),
                               ([], form + pack_record(INPUT, 0, LIMIT) + pack_record(INPUT, 0, 1) + END_RECORD, 'refusal 4: record 2'),
                               ([], form + END_RECORD + b'\0', 'refusal 8: 1 bytes stand behind the end record'),
@@ -1014,14 +1041,14 @@ def readme(folder):
     same("the number of README's lines with awk", len(lines), 1)
     status, out, said = run(['sh', '-c', lines[0]], cwd=TOP)
     same("README's line", (status, out.decode().split('\n'), said), (0, [
-        'line kind action stamp verdict open', '1 I 1 1000000 clear 1', '7 O 2 2090400 certain 0', '8 G 0 2500000 blind 0',
+        'line kind action stamp verdict open', '1 I 1 1000000 clear 1', '7 O 2 2090400 certain 0', '8 G 3 2500000 blind 0',
         '11 I 0 3000000 clear 1', '14 O 2 3061000 suspect 2', 'end 14', ''], ''))
     made = Folder(folder)
     crowd = run([UNPACK, os.path.join(TOP, 'samples', 'case14.bin')])[1].decode()
     same('a crowd', made.run(data=run([PACK], crowd.encode())[1])[1].decode().split('\n')[-2], 'stop 64 6')
-    marked = crowd.replace('?0 @60\n', 'gap @60\n!1 @120\n?0 @181\n')
+    marked = crowd.replace('?0 @60\n', 'gap @60 lost 1\n!1 @120\n?0 @181\n')
     same('a crowd with a gap mark', made.run(data=run([PACK], marked.encode())[1])[1].decode().split('\n')[-5:],
-         ['65 G 0 60 blind 0', '66 O 1 120 blind 0', '67 I 0 181 clear 1', 'end 67', ''])
+         ['65 G 1 60 blind 0', '66 O 1 120 blind 0', '67 I 0 181 clear 1', 'end 67', ''])
 
 
 def rules_cited(folder):
@@ -1042,7 +1069,7 @@ def rules_cited(folder):
 
 PARTS = [listing_status, listing_long, listing_lost_output, listing_slow_reader, listing_live, listing_leaves_input, listing_builds,
          listing_names, listing_names_lists, listing_names_builds, listing_names_live, listing_tap, listing_why, names_text,
-         names_output, pack_output, pack_text, pack_follow, pack_card, unpack_back, readme, rules_cited]
+         names_output, pack_output, pack_text, pack_follow, pack_lost, pack_card, unpack_back, readme, rules_cited]
 
 
 def main(names):

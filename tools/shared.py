@@ -8,6 +8,7 @@ import signal
 
 LONGEST = 32
 HIGHEST_ACTION = 63
+MOST_LOST = 63  # of a gap's number of lost lines: more, or unknown
 HIGHEST_BOUND = 60_000_000
 HIGHEST_STAMP = 2**40 - 1
 INPUT, OUTPUT, GAP, END = range(4)
