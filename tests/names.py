@@ -9,7 +9,7 @@ import sys
 sys.dont_write_bytecode = True
 import logs  # noqa: E402
 import rules  # noqa: E402
-from rules import END_RECORD, GAP, INPUT, LIMIT, OUTPUT, announced, pack_names, pack_record  # noqa: E402
+from rules import END, END_RECORD, GAP, INPUT, LIMIT, OUTPUT, announced, pack_names, pack_record  # noqa: E402
 
 BEHIND = b'not to be read'
 
@@ -137,8 +137,8 @@ def fixed(runs):
     bad, form = raw((5, 0, b'')), b'\0' * 16
     for site, release, log, last in ((bad, bad, LOG, 'stop 0 11'), (bad, GOOD, form, 'stop 0 11'), (GOOD, bad, form, 'stop 0 12'),
                                      (bad, bad, form, 'stop 0 11'), (GOOD, GOOD, form, 'stop 0 1'), (b'', b'', form, 'stop 0 1'),
-                                     (GOOD, GOOD, FORM[:-1] + b'\1', 'stop 0 8'), (GOOD, GOOD, FORM + pack_record(GAP, 1, 0), 'stop 0 8'),
-                                     (GOOD, b'', FORM + pack_record(INPUT, 0, 5) + pack_record(GAP, 1, 0), 'stop 1 8'),
+                                     (GOOD, GOOD, FORM[:-1] + b'\1', 'stop 0 8'), (GOOD, GOOD, FORM + pack_record(END, 1, 0), 'stop 0 8'),
+                                     (GOOD, b'', FORM + pack_record(INPUT, 0, 5) + pack_record(END, 1, 0), 'stop 1 8'),
                                      (b'', GOOD, FORM + pack_record(INPUT, 0, LIMIT) + pack_record(OUTPUT, 0, 1), 'stop 1 4'),
                                      (GOOD, GOOD, FORM + END_RECORD, 'end 0')):
         check('several faults', site, release, last, log)

@@ -457,7 +457,7 @@ line kind action name stamp verdict open
 5 I 0 switch 2000000 clear 1
 6 O 0 acknowledged 2090000 clear 0
 7 O 2 old-tile 2090400 certain 0
-8 G 0 - 2500000 blind 0
+8 G 3 - 2500000 blind 0
 9 O 2 old-tile 2560000 blind 0
 10 I 2 city-centre 2630000 blind 0
 11 I 0 switch 3000000 clear 1
@@ -627,7 +627,7 @@ line kind action stamp verdict open
 3 I 0 4294960000 clear 1
 4 O 0 4295050000 clear 0
 5 O 2 4295050400 certain 0
-6 G 0 4295500000 blind 0
+6 G 63 4295500000 blind 0
 7 I 0 8589930000 clear 1
 8 I 2 8589935000 clear 2
 9 O 0 8589990000 clear 2
