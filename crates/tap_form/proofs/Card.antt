@@ -1,15 +1,15 @@
 -- The card's records of true stamps are read back as the lines that they are of, and whatever is read as lines is what the card sends for
 -- them: only one packing of each trace is taken.
 use Prim.Native.Nat.{ℕ, _+_, _^_, _<_, _≤_}
-use mathlib.Core.Bool.{Bool, false, not, cond}
+use mathlib.Core.Bool.{Bool, false, not}
 use mathlib.Core.Path.{_≡_, refl, sym, _∙_, ap, ap₂, subst}
 use mathlib.Core.List.{List, [], _∷_, _++_, append-nil}
 use native.Mathlib.Omega.{arith}
 use lib.ListN.{length, take, drop, length-append, take-append-drop}
 use lib.Dec.{eqb, lit≤}
 use lib.Seq.{drop-at}
-use borrow.Author.Tests.{eq-eqb, ne-eqb, eqb-true, not-false}
-use Rattle.meaning.specs.Limits.{last-stamp, last-action, most-lost}
+use borrow.Author.Tests.{eq-eqb, eqb-true, not-false}
+use Rattle.meaning.specs.Limits.{last-stamp, last-action}
 use Rattle.fields.specs.Fields.{field}
 use Rattle.record_form.specs.Record.{Bytes, RecordAnswer, end, taken, answered, broken, stamp-above}
 use Rattle.record_form.specs.Trace.{Entry, kind-of, action-of, stamp-of, CanBeWritten}
@@ -21,7 +21,7 @@ use Rattle.record_form.proofs.Trace.{Bytes-drop}
 use Rattle.tap_form.specs.Tap.{counter-at, since, tap-stamp, tap-broken, tap-action, tap-fields-refusal, tap-answer, tap-form}
 use Rattle.tap_form.specs.Card.{card-action, CardNumber, card-form, CardCanSay, TapTakenAs}
 use Rattle.tap_form.proofs.Wrapped.{counter-lt, since-back, since-lt, since-true}
-use Rattle.tap_form.proofs.Reading.{TapReadable, values, tap-numbers, tap-long, tap-fields, line-stamp, end-stamp, no-gap, gap-number}
+use Rattle.tap_form.proofs.Reading.{TapReadable, values, tap-numbers, tap-long, tap-fields, line-stamp, end-stamp, no-gap, gap-number, gap-counts, own-action}
 
 length-tap-form : (kind action counter : ℕ) → length (tap-form kind action counter) ≡ 5
 unfolding tap-form
@@ -87,9 +87,8 @@ module _ (s : List ℕ) (before kind action stamp : ℕ) (e : tap-answer s befor
   is-stamp : tap-stamp (field s 0 2) (field s 8 32) before ≡ stamp
   is-stamp = ap (λ (a : RecordAnswer). a .stamp) same
 
-  -- what is no gap has its own action
-  own-action : (kind ≡ 2 → ⊥) → field s 2 6 ≡ action
-  own-action n = ap (λ (b : Bool). cond b most-lost (field s 2 6)) (sym (ne-eqb (field s 0 2) 2 (λ q. n (sym is-kind ∙ q)))) ∙ is-action
+  own-number : (kind ≡ 2 → ⊥) → field s 2 6 ≡ action
+  own-number n = sym (own-action (field s 0 2) (field s 2 6) (λ q. n (sym is-kind ∙ q))) ∙ is-action
 
   before-within : before ≤ last-stamp
   before-within = within _ _ (there .in-range) .1
@@ -116,17 +115,17 @@ module _ (s : List ℕ) (before kind action stamp : ℕ) (e : tap-answer s befor
     end-form : Bytes s → take 5 s ≡ tap-form end 0 0
     end-form b =
         let u = unbroken _ _ _ (sym (no-gap (field s 0 2) (field s 2 6) _ (λ q. omega (arith, is-kind, ends, q))) ∙ there .sound) in
-        read-form b 0 0 (own-action (λ q. omega (arith, ends, q)) ∙ none) (eqb-true (field s 8 32) 0 (not-false _ (u .2 (is-kind ∙ ends)))) ∙ ap (λ (k : ℕ). tap-form k 0 0) ends
+        read-form b 0 0 (own-number (λ q. omega (arith, ends, q)) ∙ none) (eqb-true (field s 8 32) 0 (not-false _ (u .2 (is-kind ∙ ends)))) ∙ ap (λ (k : ℕ). tap-form k 0 0) ends
 
 -- the action of an entry's record, and that its number is one that the card can say
 entry-number : (s : List ℕ) (before : ℕ) (e : Entry) → tap-answer s before ≡ taken (kind-of e) (action-of e) (stamp-of e)
     → (field s 2 6 ≡ card-action e) × CardNumber e
-entry-number s before (Entry.input a t) h = let n = own-action s before 0 a t h (λ q. omega arith) in (n, omega (arith, n, field-lt s 2 6))
-entry-number s before (Entry.output a t) h = let n = own-action s before 1 a t h (λ q. omega arith) in (n, omega (arith, n, field-lt s 2 6))
+entry-number s before (Entry.input a t) h = let n = own-number s before 0 a t h (λ q. omega arith) in (n, omega (arith, n, field-lt s 2 6))
+entry-number s before (Entry.output a t) h = let n = own-number s before 1 a t h (λ q. omega arith) in (n, omega (arith, n, field-lt s 2 6))
 entry-number s before (Entry.gap n t) h =
     let is-gap = is-kind s before 2 n t h in (
       gap-number (field s 0 2) (field s 2 6) _ is-gap (there s before 2 n t h .sound),
-      sym (ap (λ (b : Bool). cond b most-lost (field s 2 6)) (sym (eq-eqb (field s 0 2) 2 is-gap)) ∙ is-action s before 2 n t h),
+      sym (is-action s before 2 n t h) ∙ gap-counts (field s 0 2) (field s 2 6) is-gap,
     )
 
 -- ---- whole traces

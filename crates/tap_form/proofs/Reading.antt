@@ -58,6 +58,13 @@ pub no-gap : (kind action : ℕ) (other : Bool) → (kind ≡ 2 → ⊥) → tap
 unfolding tap-broken
 no-gap kind action other n = simp (ne-eqb kind 2 n)
 
+-- "and count as 63"; what is no gap has its own action
+pub gap-counts : (kind action : ℕ) → kind ≡ 2 → tap-action kind action ≡ most-lost
+gap-counts kind action e = ap (λ (b : Bool). cond b most-lost action) (eq-eqb kind 2 e)
+
+pub own-action : (kind action : ℕ) → (kind ≡ 2 → ⊥) → tap-action kind action ≡ action
+own-action kind action n = ap (λ (b : Bool). cond b most-lost action) (ne-eqb kind 2 n)
+
 -- ---- by the kind
 module _ (action counter before : ℕ) where
   -- what is not an end is broken or not whatever its third field is
@@ -94,19 +101,26 @@ module _ (action counter before : ℕ) where
   unfolding tap-fields-refusal answered
   gap-refused kind e n = simp (gap-broken kind action (not (eqb counter 0)) e n)
 
-  pub end-as-record : (kind : ℕ) → kind < 4 → kind ≡ 3 → fields-numbers kind action counter before ≡ tap-numbers kind action counter before
-  end-as-record kind h e =
-      ap₂ (λ (b c : Bool). fields-numbers kind (cond c most-lost action) (cond b counter (since counter before)) before) (sym (eq-eqb kind 3 e))
-      (sym (ne-eqb kind 2 (λ q. omega (arith, e, q))))
-      ∙ as-record kind h (λ q. omega (arith, e, q))
-
-  -- what is no end, with its number: a gap's is 63
-  pub line-as-record : (kind number less : ℕ) → kind < 4 → (kind ≡ 3 → ⊥) → (kind ≡ 2 → action ≡ 0) → number ≡ tap-action kind action → less ≡ since counter before
+  -- with its number and its third field
+  by-fields : (kind number less : ℕ) → kind < 4 → (kind ≡ 2 → action ≡ 0) → tap-action kind action ≡ number → stamp-field kind counter before ≡ less
       → fields-numbers kind number less before ≡ tap-numbers kind action counter before
-  line-as-record kind number less h n z a e =
-      ap₂ (λ (x m : ℕ). fields-numbers kind x m before) a e
-      ∙ ap (λ (b : Bool). fields-numbers kind (tap-action kind action) (cond b counter (since counter before)) before) (sym (ne-eqb kind 3 n))
-      ∙ as-record kind h z
+  by-fields kind number less h z a e = ap₂ (λ (x m : ℕ). fields-numbers kind x m before) (sym a) (sym e) ∙ as-record kind h z
+
+  time-field : (kind less : ℕ) → (kind ≡ 3 → ⊥) → less ≡ since counter before → stamp-field kind counter before ≡ less
+  time-field kind less n e = ap (λ (b : Bool). cond b counter (since counter before)) (ne-eqb kind 3 n) ∙ sym e
+
+  pub gap-as-record : (kind less : ℕ) → kind < 4 → kind ≡ 2 → action ≡ 0 → less ≡ since counter before
+      → fields-numbers kind most-lost less before ≡ tap-numbers kind action counter before
+  gap-as-record kind less h k z e = by-fields kind most-lost less h (λ q. z) (gap-counts kind action k) (time-field kind less (λ q. omega (arith, k, q)) e)
+
+  pub end-as-record : (kind : ℕ) → kind < 4 → kind ≡ 3 → fields-numbers kind action counter before ≡ tap-numbers kind action counter before
+  end-as-record kind h k =
+      by-fields kind action counter h (λ q. omega (arith, k, q)) (own-action kind action (λ q. omega (arith, k, q)))
+      (ap (λ (b : Bool). cond b counter (since counter before)) (eq-eqb kind 3 k))
+
+  pub line-as-record : (kind less : ℕ) → kind < 4 → (kind ≡ 2 → ⊥) → (kind ≡ 3 → ⊥) → less ≡ since counter before
+      → fields-numbers kind action less before ≡ tap-numbers kind action counter before
+  line-as-record kind less h m n e = by-fields kind action less h (λ q. absurd (m q)) (own-action kind action m) (time-field kind less n e)
 
   -- the enum's case says the same numbers
   tap-same-numbers : (kind : ℕ) → kind < 4 → numbers (case-of (tap-numbers kind action counter before)) ≡ tap-numbers kind action counter before

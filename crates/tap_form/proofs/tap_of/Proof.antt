@@ -1,23 +1,10 @@
 -- `tap_form::tap_of` meets its contract: a gap with the number that it counts as, an end by its counter, what is none by the wrapped difference.
 use borrow.Author.Needs.{needs}
-use native.Mathlib.Omega.{arith}
-use Prim.Native.Nat.{ℕ}
-use mathlib.Core.Path.{_≡_, sym, _∙_, ap}
-use mathlib.Core.Bool.{Bool, cond}
-use borrow.Author.Tests.{eq-eqb, ne-eqb}
-use Rattle.meaning.specs.Limits.{most-lost}
+use mathlib.Core.Path.{sym, _∙_, ap}
 use Rattle.record_form.specs.Record.{case-of, case-by}
-use Rattle.tap_form.specs.Tap.{tap-action}
-use Rattle.tap_form.proofs.Reading.{gap-refused, end-as-record, line-as-record}
+use Rattle.tap_form.proofs.Reading.{gap-refused, gap-as-record, end-as-record, line-as-record}
 use Rattle.tap_form.proofs.tap_of.Statement.{statement}
 use Rattle.tap_form.proofs.tap_of.Tie as tie
-
--- "count as 63", and what is no gap has its own action
-gap-counts : (kind action : ℕ) → kind ≡ 2 → most-lost ≡ tap-action kind action
-gap-counts kind action e = ap (λ (b : Bool). cond b most-lost action) (sym (eq-eqb kind 2 e))
-
-own-action : (kind action : ℕ) → (kind ≡ 2 → ⊥) → action ≡ tap-action kind action
-own-action kind action n = ap (λ (b : Bool). cond b most-lost action) (sym (ne-eqb kind 2 n))
 
 returns : tie.Need-returns
 unfolding case-by
@@ -39,14 +26,17 @@ record-of-requires-3 : tie.Need-record-of-requires-3
 record-of-requires-3 c κs = search needs
 
 returns-2 : tie.Need-returns-2
-returns-2 c = c .record-of .ensures ∙ ap case-of (line-as-record _ _ _ _ _ _ (c .before .before .before .before .pre) (λ q. omega arith) (λ q. c .before .before .if1 .left) (gap-counts _ _ (c .before .before .before .match .keys1)) (c .before .time-since .ensures))
+returns-2 c =
+    let e = c .before .before in
+    c .record-of .ensures ∙ ap case-of (gap-as-record _ _ _ _ _ (e .before .before .pre) (e .before .match .keys1) (e .if1 .left) (c .before .time-since .ensures))
 
 returns-3 : tie.Need-returns-3
 returns-3 c = c .record-of2 .ensures ∙ ap case-of (end-as-record _ _ _ _ (c .before .before .pre) (c .before .match .keys2))
 
 returns-4 : tie.Need-returns-4
 returns-4 c =
-    c .record-of3 .ensures ∙ ap case-of (line-as-record _ _ _ _ _ _ (c .before .before .before .pre) (c .before .before .match .rest .1) (λ q. absurd (c .before .before .match .rest .0 .1 q)) (own-action _ _ (c .before .before .match .rest .0 .1)) (c .before .time-since2 .ensures))
+    let m = c .before .before in
+    c .record-of3 .ensures ∙ ap case-of (line-as-record _ _ _ _ _ (m .before .pre) (m .match .rest .0 .1) (m .match .rest .1) (c .before .time-since2 .ensures))
 
 pub tap-of-spec : {M : Type 1} → statement M
 tap-of-spec =
