@@ -66,11 +66,11 @@ pub use Rattle.tap_form.proofs.Card.{card-reads-back, card-writes-back, card-on
 pub use Rattle.demands.proofs.Same.{demand-tap}
 -- Names (document 02, CR 2), in `Names`: the lists, `names::refused` and `name`, the listing with names.
 pub use Rattle.demands.proofs.Names.{list-taken, list-back, list-one-packing, one-list, one-entry, demand-1-names, demand-name, demand-1-lists, demand-1-named, demand-named}
--- What is called (`Called`). A verdict once told stays told (document 02, CR 3): of the calls that run (`Told`), behind `running-3`.
-pub use Rattle.demands.proofs.Called.{kinds, own-call, line-called, mark-called, event-called}
 -- How many lines were lost (document 02, CR 7), in `Lost`: a gap's number read and written, `mark` and its refusals, that nothing depends on the
 -- number, and two walks joined.
 pub use Rattle.demands.proofs.Lost.{gap-read, gap-number, gap-written, demand-1-mark, same-watched, same-told, same-step, same-through, same-answers, same-walk, same-judge, demand-joined}
+-- What is called (`Called`). A verdict once told stays told (document 02, CR 3): of the calls that run (`Told`), behind `running-3`.
+pub use Rattle.demands.proofs.Called.{kinds, own-call, line-called, mark-called, event-called}
 pub use Rattle.demands.proofs.Told.{told-stays, closed-stays, closed-history, line-stands, session-stays, walk-stays, listing-stays, refused-stays}
 
 -- ==== Demand 2, over the meaning. "After each line taken while the watcher isn't blind, the verdict on the run is exact."

@@ -24,7 +24,7 @@ use Rattle.session_record.specs.Record.{latest-of}
 use Rattle.session_record.specs.Step.{stepped-of, stepped-through}
 use Rattle.walk.specs.declared.Stop.{Stop}
 use Rattle.walk.specs.declared.Stop.the-variants.{Budget, End, Refused}
-use Rattle.walk.specs.Walk.{Walk, stop-number, stop-refusal, one-call, one-read, stopped, one-more, walked-by, walk-on, answered}
+use Rattle.walk.specs.Walk.{Walk, stop-number, stop-refusal, one-call, one-read, stopped, one-more, walked-by, walk-on, walk-answer}
 use Rattle.stretch.specs.Judge.{by-stop}
 use Rattle.demands.specs.Traces.{calls-of, BeginsWith, behind, TakenOneByOne, StopsBy, met, first-met}
 use Rattle.demands.proofs.Running.{running, seen, running-latest, running-number, running-next, seen-taken}
@@ -63,9 +63,9 @@ pub record TakenWhole (s : Session) (bytes : List ℕ) (w : Walk) : Type 0 where
 
 -- a walk that stopped at an end record with nothing behind it
 pub whole-trace : (n : ℕ) (s : Session) (bytes : List ℕ) (w : Walk) → walk-on n s bytes ≡ w → w .stop ≡ End → length bytes ≤ w .read → TakenWhole s bytes w
-whole-trace n s bytes w e stop all = go (subst (λ (x : Walk). WalkedOver s bytes n (answered bytes x)) e (walked-over n s bytes))
+whole-trace n s bytes w e stop all = go (subst (λ (x : Walk). WalkedOver s bytes n (walk-answer bytes x)) e (walked-over n s bytes))
   where
-    go : WalkedOver s bytes n (answered bytes w) → TakenWhole s bytes w
+    go : WalkedOver s bytes n (walk-answer bytes w) → TakenWhole s bytes w
     go h =
         let st = subst (λ (x : Stop). StopsBy (stop-number x) (n - w .taken) (w .session) (behind (h .entries) bytes) (stop-refusal x) (h .more)) stop (h .stops) in
         let end = subst (λ (x : Session). record-answer (behind (h .entries) bytes) (latest-of x) ≡ Record.taken Record.end 0 (latest-of x)) (h .session) (st .0) in

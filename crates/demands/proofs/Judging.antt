@@ -29,7 +29,7 @@ use Rattle.session_record.proofs.Running.{fresh-record}
 use Rattle.cuts.specs.Steps.{fresh-by}
 use Rattle.walk.specs.declared.Stop.{Stop}
 use Rattle.walk.specs.declared.Stop.the-variants.{Budget, End, Refused}
-use Rattle.walk.specs.Walk.{Walk, stop-number, stop-refusal, walk-on, answered}
+use Rattle.walk.specs.Walk.{Walk, stop-number, stop-refusal, walk-on, walk-answer}
 use Rattle.stretch.specs.declared.Judged.{Judged}
 use Rattle.stretch.specs.Judge.{refused, by-stop, walked, trace-judged, by-property, judge-of, one-number}
 use Rattle.stretch.proofs.Bounds.{judge-small}
@@ -61,7 +61,7 @@ module _ (p : Property) (good : property-refusal (meant p) ≡ 0) (trace : List 
       w : Walk
       w = walked p trace
 
-      refused-some : (n : ℕ) → WalkedOver (record-of p (fresh-by p)) trace (length trace) (answered trace w) → w .stop ≡ Refused n → n ≡ 0 → ⊥
+      refused-some : (n : ℕ) → WalkedOver (record-of p (fresh-by p)) trace (length trace) (walk-answer trace w) → w .stop ≡ Refused n → n ≡ 0 → ⊥
       refused-some n h q =
           subst (λ (x : Stop). StopsBy (stop-number x) (length trace - w .taken) (w .session) (behind (h .entries) trace) (stop-refusal x) (h .more)) q (h .stops) .1
 

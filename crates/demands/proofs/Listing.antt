@@ -25,7 +25,7 @@ use Rattle.session_record.specs.Record.{latest-of, count-of, out-of-range}
 use Rattle.session_record.specs.Step.{standing, fresh-of, stepped-of, stepped-through}
 use Rattle.session_record.proofs.Running.{running-record}
 use Rattle.walk.specs.declared.Stop.the-variants.{Refused}
-use Rattle.walk.specs.Walk.{One, one-call, one-read, one-of, stopped, walked-by, walk-on, answered, walk-of}
+use Rattle.walk.specs.Walk.{One, one-call, one-read, one-of, stopped, walked-by, walk-on, walk-answer, walk-of}
 use Rattle.printout.specs.Text.{line-text, end-text, stop-text}
 use Rattle.printed.specs.Printed.{one-after, call-text, last-line, by-one, printed-by, printed-of}
 use Rattle.printed.specs.Listing.{lines-by, records-by, count-after}
@@ -141,12 +141,12 @@ module _ (p : Property) (good : property-refusal (meant p) ≡ 0) where
 pub refused-shown : (s : Session) (count : ℕ) (bytes : List ℕ) (n : ℕ) → walk-of s bytes 1 .refusal ≡ suc n → printed-of s count bytes ≡ last-line s count (stop-text count (suc n))
 refused-shown s count bytes n e = unfold printed-by in (named (out-of-range s) (unfold walk-of in e))
   where
-    by : (o : One) → answered bytes (walked-by o s (λ after. walk-on 0 after (drop record-size bytes))) .refusal ≡ suc n → by-one s count o ≡ last-line s count (stop-text count (suc n))
+    by : (o : One) → walk-answer bytes (walked-by o s (λ after. walk-on 0 after (drop record-size bytes))) .refusal ≡ suc n → by-one s count o ≡ last-line s count (stop-text count (suc n))
     by One.ended h = absurd (unfold walked-by in (omega (arith, h)))
     by (One.refused m) h = unfold walked-by by-one in (ap (λ (k : ℕ). last-line s count (stop-text count k)) h)
     by (One.took c after) h = absurd (unfold walked-by walk-on in (omega (arith, h)))
 
-    named : (t : Bool) → answered bytes (cond t (stopped s (Refused 10) 0) (walk-on 1 s bytes)) .refusal ≡ suc n
+    named : (t : Bool) → walk-answer bytes (cond t (stopped s (Refused 10) 0) (walk-on 1 s bytes)) .refusal ≡ suc n
         → cond t (last-line s count (stop-text count 10)) (by-one s count (one-of s bytes)) ≡ last-line s count (stop-text count (suc n))
     named true h = ap (λ (k : ℕ). last-line s count (stop-text count k)) h
     named false h = by (one-of s bytes) (unfold walk-on in h)

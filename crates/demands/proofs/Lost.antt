@@ -2,7 +2,7 @@
 use Prim.Native.Nat.{ℕ, zero, suc, _+_, _≤_}
 use mathlib.Core.Path.{_≡_, refl, sym, _∙_, ap, ap₂, subst}
 use mathlib.Core.Bool.{Bool, true, false, cond, not}
-use mathlib.Core.List.{List, [], _∷_}
+use mathlib.Core.List.{List, [], Forall₂·nil, Forall₂·cons}
 use native.Mathlib.Omega.{arith}
 use lib.ListN.{length, drop, length-drop}
 use lib.Dec.{ltb, eqb}
@@ -10,32 +10,32 @@ use borrow.Author.Tests.{le-ltb}
 use Rattle.meaning.specs.Words.{Property}
 use Rattle.meaning.specs.Numbers.{given, first-of}
 use Rattle.meaning.specs.Calls.{Call, Watch, mark-at, stamp-refusal, refusal, unless-refused, next, watched, Answer, AnswerBy, IsAnswer}
+use Rattle.meaning.specs.History.{stamp-of as call-stamp}
 use Rattle.fields.specs.Fields.{field}
 use Rattle.record_form.specs.Record.{RecordAnswer, record-size, record-answer, broken, stamp-above, fields-refusal, read-refusal, write-refusal}
 use Rattle.record_form.specs.Record
-use Rattle.record_form.specs.ReadAs.{ReadAs, read-as}
+use Rattle.record_form.specs.ReadAs.{read-as}
 use Rattle.record_form.specs.Trace.{Entry, kind-of, action-of, stamp-of, entry-call}
 use Rattle.record_form.proofs.Rules.{broken-none}
-use Rattle.record_form.proofs.Reading.{field-lt, taken-answer, refusal-of as number-of}
-use Rattle.record_form.proofs.ReadAs.{entry-read, fields-read}
+use Rattle.record_form.proofs.Reading.{taken-answer, refusal-of as number-of}
+use Rattle.record_form.proofs.ReadAs.{entry-read}
 use Rattle.record_form.proofs.Reader.{reads-whole, record-reads}
 use Rattle.session_record.specs.declared.Session.{Session}
 use Rattle.session_record.specs.declared.Stepped.{Stepped}
-use Rattle.session_record.specs.Record.{latest-of, out-of-range}
+use Rattle.session_record.specs.Record.{latest-of, record-of, out-of-range}
 use Rattle.session_record.specs.Step.{refusal-of, stepped-of, stepped-through}
 use Rattle.session_record.proofs.Steps.{answer-refusal}
-use Rattle.walk.specs.Walk.{Walk, Walking, One, one-call, one-read, one-of, one-more, walked-by, walk-on, some-gap, walk-of}
+use Rattle.walk.specs.declared.Stop.the-variants.{Refused}
+use Rattle.walk.specs.Walk.{Walk, Walking, One, stop-number, stop-refusal, one-call, one-read, one-of, stopped, one-more, walked-by, walk-on, budget-of, some-gap, walk-of}
 use Rattle.walk.proofs.Lost.{last-by-gap}
 use Rattle.walk.proofs.Chunks.{GoesOnBy, chunks}
 use Rattle.stretch.specs.Judge.{walked, by-stop, trace-judged, by-property, judge-of}
-use Rattle.stretch.specs.declared.Judged.{Judged}
 use Rattle.property.specs.declared.Property as Data
 use Rattle.property_form.specs.Read.{read, taken}
 use Rattle.cuts.specs.Steps.{fresh-by}
-use Rattle.session_record.specs.Record.{record-of}
 use Rattle.demands.specs.Traces.{BeginsWith, behind}
-use Rattle.demands.specs.Lost.{last-gap, SameCall, SameCalls, SameEntry, SameEntries}
-use Rattle.demands.proofs.Walks.{WalkedOver, entry-latest, begun-lost}
+use Rattle.demands.specs.Lost.{last-gap, SameCall, SameCalls, SameEntries}
+use Rattle.demands.proofs.Walks.{WalkedOver, entry-stamp, entry-latest, begun-lost}
 
 -- ==== Reader and writer. "0 to 62 as it is, 63 for more or unknown": a gap is never refused for its number,
 pub gap-read : (s : List ℕ) (before : ℕ) → field s 0 2 ≡ 2
@@ -74,8 +74,8 @@ same-next p (SameCall.mark lost other stamp h k) w =
 
 pub same-watched : (p : Property) {calls others : List Call} → SameCalls calls others → (w : Watch) → watched p w calls ≡ watched p w others
 unfolding watched
-same-watched p SameCalls.none w = refl
-same-watched p (SameCalls.more {c} {d} {calls} {others} h rest) w = same-watched p rest (next p w c) ∙ ap (λ (x : Watch). watched p x others) (same-next p h w)
+same-watched p Forall₂·nil w = refl
+same-watched p (Forall₂·cons {a = c} {b = d} {l₁ = calls} {l₂ = others} h rest) w = same-watched p rest (next p w c) ∙ ap (λ (x : Watch). watched p x others) (same-next p h w)
 
 -- and what answers the one call answers the other.
 pub same-told : (p : Property) {c d : Call} → SameCall c d → (w : Watch) (a : Answer) → IsAnswer p w c a → IsAnswer p w d a
@@ -97,8 +97,8 @@ same-step (SameCall.mark lost other stamp h k) s = simp (le-ltb 63 lost h, le-lt
 -- and so they are behind two such histories.
 pub same-through : {calls others : List Call} → SameCalls calls others → (s : Session) → stepped-through s calls ≡ stepped-through s others
 unfolding stepped-through
-same-through SameCalls.none s = refl
-same-through (SameCalls.more {c} {d} {calls} {others} h rest) s =
+same-through Forall₂·nil s = refl
+same-through (Forall₂·cons {a = c} {b = d} {l₁ = calls} {l₂ = others} h rest) s =
     same-through rest (stepped-of s c .session) ∙ ap (λ (r : Stepped). stepped-through (r .session) others) (same-step h s)
 
 pub same-answers : {calls others : List Call} {c d : Call} → SameCalls calls others → SameCall c d → (s : Session)
@@ -106,34 +106,22 @@ pub same-answers : {calls others : List Call} {c d : Call} → SameCalls calls o
 same-answers {calls} {others} {c} {d} h k s = same-step k (stepped-through s calls) ∙ ap (λ (x : Session). stepped-of x d) (same-through h s)
 
 -- ==== Traces that differ in these numbers alone: the bytes begin with such records, and what stands behind them is the same.
+same-stamp : {c d : Call} → SameCall c d → call-stamp c ≡ call-stamp d
+same-stamp (SameCall.line l) = refl
+same-stamp (SameCall.mark lost other stamp h k) = refl
 
--- a number that was read is one that can be said
-same-read : {e f : Entry} → SameEntry e f → (bytes other : List ℕ) (before : ℕ) → record-answer bytes before ≡ Record.taken (kind-of e) (action-of e) (stamp-of e)
-    → record-answer other before ≡ Record.taken (kind-of f) (action-of f) (stamp-of f) → SameCall (entry-call e) (entry-call f)
-same-read (SameEntry.input k t) bytes other before h g = SameCall.line _
-same-read (SameEntry.output k t) bytes other before h g = SameCall.line _
-same-read (SameEntry.gap lost number t) bytes other before h g = SameCall.mark lost number t (small bytes lost h) (small other number g)
-  where
-    small : (s : List ℕ) (n : ℕ) → record-answer s before ≡ Record.taken 2 n t → n ≤ 63
-    small s n q =
-        let f = fields-read s before (ap (λ (a : RecordAnswer). a .refusal) q) .1 in
-        omega (arith, f, field-lt s 2 6, ap (λ (a : RecordAnswer). a .action) q)
+entry-same : (e f : Entry) → SameCall (entry-call e) (entry-call f) → stamp-of e ≡ stamp-of f
+entry-same e f h = sym (entry-stamp e) ∙ same-stamp h ∙ entry-stamp f
 
-same-stamp : {e f : Entry} → SameEntry e f → stamp-of e ≡ stamp-of f
-same-stamp (SameEntry.input k t) = refl
-same-stamp (SameEntry.output k t) = refl
-same-stamp (SameEntry.gap lost number t) = refl
-
--- A walk takes as many of them, stops in the same way and at the same byte, and leaves the same session.
-pub same-walk : (budget : ℕ) {entries others : List Entry} → SameEntries entries others → (s : Session) (bytes other : List ℕ)
+same-walk-on : (budget : ℕ) {entries others : List Entry} → SameEntries entries others → (s : Session) (bytes other : List ℕ)
     → BeginsWith bytes (latest-of s) entries → BeginsWith other (latest-of s) others → behind entries bytes ≡ behind others other
     → walk-on budget s bytes ≡ walk-on budget s other
 unfolding walk-on
-same-walk budget SameEntries.none s bytes other h g e = ap (walk-on budget s) e
-same-walk zero (SameEntries.more one rest) s bytes other h g e = refl
-same-walk (suc budget) (SameEntries.more {e} {f} {entries} {others} one rest) s bytes other h g q =
+same-walk-on budget Forall₂·nil s bytes other h g e = ap (walk-on budget s) e
+same-walk-on zero (Forall₂·cons one rest) s bytes other h g e = refl
+same-walk-on (suc budget) (Forall₂·cons {a = e} {b = f} {l₁ = entries} {l₂ = others} one rest) s bytes other h g q =
     ap (λ (o : One). walked-by o s on) (is e bytes (h .0))
-    ∙ go (stepped-of s (entry-call e) .answer .refusal) refl (λ after b o. same-walk budget rest after (drop record-size bytes) (drop record-size other) b o q)
+    ∙ go (stepped-of s (entry-call e) .answer .refusal) refl (λ after b o. same-walk-on budget rest after (drop record-size bytes) (drop record-size other) b o q)
     ∙ ap (λ (n : ℕ). walked-by (one-call s (entry-call f) n) s on′) (ap (λ (r : Stepped). r .answer .refusal) same)
     ∙ sym (ap (λ (o : One). walked-by o s on′) (is f other (g .0)))
   where
@@ -148,7 +136,7 @@ same-walk (suc budget) (SameEntries.more {e} {f} {entries} {others} one rest) s 
     is x l k = ap (one-read s) (ap read-as k ∙ entry-read x) ∙ (unfold one-read in refl)
 
     same : stepped-of s (entry-call e) ≡ stepped-of s (entry-call f)
-    same = same-step (same-read one bytes other (latest-of s) (h .0) (g .0)) s
+    same = same-step one s
 
     go : (n : ℕ) → stepped-of s (entry-call e) .answer .refusal ≡ n
         → ((after : Session) → BeginsWith (drop record-size bytes) (latest-of after) entries → BeginsWith (drop record-size other) (latest-of after) others → on after ≡ on′ after)
@@ -158,18 +146,45 @@ same-walk (suc budget) (SameEntries.more {e} {f} {entries} {others} one rest) s 
         (ap one-more
         (ih (stepped-of s (entry-call e) .session)
         (subst (λ (t : ℕ). BeginsWith (drop record-size bytes) t entries) (sym (entry-latest s e z)) (h .1))
-        (subst (λ (t : ℕ). BeginsWith (drop record-size other) t others) (sym (entry-latest s e z ∙ same-stamp one)) (g .1))
+        (subst (λ (t : ℕ). BeginsWith (drop record-size other) t others) (sym (entry-latest s e z ∙ entry-same e f one)) (g .1))
         ∙ ap (λ (r : Stepped). on′ (r .session)) same))
     go (suc n) z ih = unfold one-call walked-by in refl
 
--- So does the judge: refusal, verdict and count are the same.
+-- A walk takes as many of them, stops in the same way and at the same byte, and leaves the same session: all of its answer but the number
+-- itself.
+pub same-walk : {entries others : List Entry} → SameEntries entries others → (s : Session) (bytes other : List ℕ) (budget : ℕ)
+    → BeginsWith bytes (latest-of s) entries → BeginsWith other (latest-of s) others → behind entries bytes ≡ behind others other
+    → let w : Walking = walk-of s other budget in
+    walk-of s bytes budget
+    ≡ record {
+      taken = w .taken;
+      stop = w .stop;
+      refusal = w .refusal;
+      read = w .read;
+      lost = walk-of s bytes budget .lost;
+      session = w .session;
+    }
+unfolding walk-of
+same-walk same s bytes other budget h g e =
+    ap (λ (u : Walk).
+    record {
+      taken = u .taken;
+      stop = stop-number (u .stop);
+      refusal = stop-refusal (u .stop);
+      read = u .read;
+      lost = walk-of s bytes budget .lost;
+      session = u .session;
+    })
+    (ap (cond (out-of-range s) (stopped s (Refused 10) 0)) (same-walk-on (budget-of budget) same s bytes other h g e))
+
+-- So it is with the judge: refusal, verdict and count are the same.
 same-size : {entries others : List Entry} → SameEntries entries others → (bytes other : List ℕ) (before : ℕ) → BeginsWith bytes before entries → BeginsWith other before others
     → behind entries bytes ≡ behind others other → length bytes ≡ length other
-same-size SameEntries.none bytes other before h g e = ap length e
-same-size (SameEntries.more {e} {f} {entries} {others} one rest) bytes other before h g q =
+same-size Forall₂·nil bytes other before h g e = ap length e
+same-size (Forall₂·cons {a = e} {b = f} {l₁ = entries} {l₂ = others} one rest) bytes other before h g q =
     let b = reads-whole record-reads bytes before (ap (λ (a : RecordAnswer). a .refusal) (h .0)) in
     let o = reads-whole record-reads other before (ap (λ (a : RecordAnswer). a .refusal) (g .0)) in
-    let r = same-size rest (drop record-size bytes) (drop record-size other) (stamp-of e) (h .1) (subst (λ (t : ℕ). BeginsWith (drop record-size other) t others) (sym (same-stamp one)) (g .1)) q in
+    let r = same-size rest (drop record-size bytes) (drop record-size other) (stamp-of e) (h .1) (subst (λ (t : ℕ). BeginsWith (drop record-size other) t others) (sym (entry-same e f one)) (g .1)) q in
     omega (arith, b, o, r, length-drop record-size bytes, length-drop record-size other)
 
 pub same-judge : (property : List ℕ) {entries others : List Entry} → SameEntries entries others → (trace other : List ℕ) → BeginsWith trace 0 entries → BeginsWith other 0 others
@@ -183,7 +198,7 @@ same-judge property same trace other h g e = ap (by-property (read property .ref
     judged : (p : Data.Property) → trace-judged p trace ≡ trace-judged p other
     judged p =
         let w : walked p trace ≡ walked p other =
-        same-walk (length trace) same (record-of p (fresh-by p)) trace other h g e ∙ ap (λ (n : ℕ). walk-on n (record-of p (fresh-by p)) other) size in
+        same-walk-on (length trace) same (record-of p (fresh-by p)) trace other h g e ∙ ap (λ (n : ℕ). walk-on n (record-of p (fresh-by p)) other) size in
         ap₂ (λ (x : Walk) (n : ℕ). by-stop (x .stop) (ltb (x .read) n) x) w size
 
 -- ==== Two walks, the second over the first's rest, and the one walk of both budgets: all numbers are the sum or the second's. The number of

@@ -29,7 +29,7 @@ use Rattle.session_record.specs.Step.{stepped-of, stepped-through}
 use Rattle.session_record.proofs.Steps.{step-taken, answer-refusal}
 use Rattle.walk.specs.declared.Stop.{Stop}
 use Rattle.walk.specs.declared.Stop.the-variants.{End, Refused}
-use Rattle.walk.specs.Walk.{Walk, Walking, stop-number, stop-refusal, one-call, one-read, stopped, one-more, walked-by, walk-on, lost-with, last-lost, answered, budget-of, walk-of, rest-start}
+use Rattle.walk.specs.Walk.{Walk, Walking, stop-number, stop-refusal, one-call, one-read, stopped, one-more, walked-by, walk-on, lost-with, last-lost, walk-answer, budget-of, walk-of, rest-start}
 use Rattle.walk.proofs.Going.{walk-refused, walk-taken}
 use Rattle.walk.proofs.Steps.{rest-behind}
 use Rattle.demands.specs.Traces.{calls-of, BeginsWith, behind, TakenOneByOne, StopsBy}
@@ -71,7 +71,7 @@ taken-latest p c (Call.line l) = go (c .is-blind) (beyond (meant p) (c .latest) 
     go false d = refl
 taken-latest p c (Call.mark g) = refl
 
-entry-stamp : (e : Entry) → call-stamp (entry-call e) ≡ stamp-of e
+pub entry-stamp : (e : Entry) → call-stamp (entry-call e) ≡ stamp-of e
 entry-stamp (Entry.input a t) = refl
 entry-stamp (Entry.output a t) = refl
 entry-stamp (Entry.gap n t) = refl
@@ -119,7 +119,7 @@ begun-lost bytes before (e ∷ entries) h lost =
         let f = fields-read bytes before (ap (λ (a : RecordAnswer). a .refusal) r) in
         ap₂ (λ (k n : ℕ). cond (eqb k 2) n lost) (sym (f .0) ∙ ap (λ (a : RecordAnswer). a .kind) r) (sym (f .1) ∙ ap (λ (a : RecordAnswer). a .action) r) ∙ by x
 
-pub walked-over : (budget : ℕ) (s : Session) (bytes : List ℕ) → WalkedOver s bytes budget (answered bytes (walk-on budget s bytes))
+pub walked-over : (budget : ℕ) (s : Session) (bytes : List ℕ) → WalkedOver s bytes budget (walk-answer bytes (walk-on budget s bytes))
 unfolding walk-on stepped-through
 walked-over zero s bytes =
     record {
@@ -141,7 +141,7 @@ walked-over (suc budget) s bytes = by-front (read-as (record-answer bytes (lates
 
     -- nothing is taken
     stop-here : (stop : Stop) (more : ℕ) → StopsBy (stop-number stop) (suc budget - 0) s bytes (stop-refusal stop) more
-        → WalkedOver s bytes (suc budget) (answered bytes (stopped s stop more))
+        → WalkedOver s bytes (suc budget) (walk-answer bytes (stopped s stop more))
     stop-here stop more h =
         record {
           entries = [];
@@ -158,8 +158,8 @@ walked-over (suc budget) s bytes = by-front (read-as (record-answer bytes (lates
 
     -- one record more
     one-taken : (e : Entry) → record-answer bytes (latest-of s) ≡ Record.taken (kind-of e) (action-of e) (stamp-of e) → stepped-of s (entry-call e) .answer .refusal ≡ 0
-        → (w : Walk) → WalkedOver (stepped-of s (entry-call e) .session) (drop record-size bytes) budget (answered (drop record-size bytes) w)
-        → WalkedOver s bytes (suc budget) (answered bytes (one-more w))
+        → (w : Walk) → WalkedOver (stepped-of s (entry-call e) .session) (drop record-size bytes) budget (walk-answer (drop record-size bytes) w)
+        → WalkedOver s bytes (suc budget) (walk-answer bytes (one-more w))
     one-taken e read z w h =
         let begins : BeginsWith bytes (latest-of s) (e ∷ h .entries) = (read, subst (λ (t : ℕ). BeginsWith (drop record-size bytes) t (h .entries)) (entry-latest s e z) (h .begins)) in
         record {
@@ -180,13 +180,13 @@ walked-over (suc budget) s bytes = by-front (read-as (record-answer bytes (lates
         }
 
     tried : (e : Entry) → record-answer bytes (latest-of s) ≡ Record.taken (kind-of e) (action-of e) (stamp-of e) → (n : ℕ) → stepped-of s (entry-call e) .answer .refusal ≡ n
-        → ((after : Session) → WalkedOver after (drop record-size bytes) budget (answered (drop record-size bytes) (on after)))
-        → WalkedOver s bytes (suc budget) (answered bytes (walked-by (one-call s (entry-call e) n) s on))
+        → ((after : Session) → WalkedOver after (drop record-size bytes) budget (walk-answer (drop record-size bytes) (on after)))
+        → WalkedOver s bytes (suc budget) (walk-answer bytes (walked-by (one-call s (entry-call e) n) s on))
     tried e read zero z k = unfold one-call walked-by in (one-taken e read z (on (stepped-of s (entry-call e) .session)) (k (stepped-of s (entry-call e) .session)))
     tried e read (suc n) z k = unfold one-call walked-by in (stop-here (Refused (suc n)) 0 (inr (e, read, z), (λ y. omega arith), refl))
 
-    by-front : (x : ReadAs) → Front record-answer bytes (latest-of s) x → ((after : Session) → WalkedOver after (drop record-size bytes) budget (answered (drop record-size bytes) (on after)))
-        → WalkedOver s bytes (suc budget) (answered bytes (walked-by (one-read s x) s on))
+    by-front : (x : ReadAs) → Front record-answer bytes (latest-of s) x → ((after : Session) → WalkedOver after (drop record-size bytes) budget (walk-answer (drop record-size bytes) (on after)))
+        → WalkedOver s bytes (suc budget) (walk-answer bytes (walked-by (one-read s x) s on))
     by-front x (entry e read) k = unfold one-read in (tried e read _ refl k)
     by-front x (ended read) k = unfold one-read walked-by in (stop-here End record-size (read, refl, refl))
     by-front x (refused n number some) k =

@@ -1,4 +1,4 @@
--- The trace of document 01's case 15, by the definitions alone.
+-- The trace of document 01's case 15, and a gap behind it that lost five lines (document 02, CR 7), by the definitions alone.
 use Prim.Native.Nat.{ℕ}
 use mathlib.Core.Path.{_≡_, refl, subst}
 use mathlib.Core.List.{List, [], _∷_}
@@ -29,3 +29,21 @@ can-be-written = (refl, (refl, (refl, refl)))
 pub case-15-taken : TakenAs case-15-bytes 0 case-15
 case-15-taken =
     subst (λ (s : List ℕ). TakenAs s 0 case-15) case-15-written (trace-reads-back 0 case-15 can-be-written)
+
+abbrev five-lost : List Entry
+five-lost = Entry.gap 5 200 ∷ []
+
+abbrev five-lost-bytes : List ℕ
+five-lost-bytes = 0x85 ∷ 0x00 ∷ 0x00 ∷ 0x00 ∷ 0x00 ∷ 0x27 ∷ 0xC0 ∷ 0x00 ∷ 0x00 ∷ 0x00 ∷ 0x00 ∷ 0x00 ∷ []
+
+pub five-lost-written : trace-form 161 five-lost ≡ five-lost-bytes
+unfolding trace-form record-form form packed number bits digit
+five-lost-written = refl
+
+five-can-be-written : CanBeWritten 161 five-lost
+unfolding write-refusal broken stamp-above
+five-can-be-written = (refl, refl)
+
+pub five-lost-taken : TakenAs five-lost-bytes 161 five-lost
+five-lost-taken =
+    subst (λ (s : List ℕ). TakenAs s 161 five-lost) five-lost-written (trace-reads-back 161 five-lost five-can-be-written)

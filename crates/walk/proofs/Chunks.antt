@@ -12,7 +12,7 @@ use Rattle.session_record.specs.Record.{out-of-range}
 use Rattle.session_record.proofs.Steps.{stays-in-range}
 use Rattle.walk.specs.declared.Stop.{Stop}
 use Rattle.walk.specs.declared.Stop.the-variants.{Budget, End, Refused}
-use Rattle.walk.specs.Walk.{Walk, Walking, stop-number, stop-refusal, walk-on, last-lost, some-gap, answered, budget-of, walk-of}
+use Rattle.walk.specs.Walk.{Walk, Walking, stop-number, stop-refusal, walk-on, last-lost, some-gap, walk-answer, budget-of, walk-of}
 use Rattle.walk.proofs.Steps.{Steps, none, more, walk-exactly, then, GoesOn, two-walks, spaced}
 use Rattle.walk.proofs.Lost.{last-append, last-by-gap}
 use Rattle.walk.proofs.Going.{walk-taken}
@@ -59,9 +59,9 @@ pub chunks : (b₁ b₂ : ℕ) (s : Session) (bytes : List ℕ) → b₁ + b₂ 
     walk-of s bytes (b₁ + b₂) ≡ and-then (some-gap (w .taken) (drop (v .read) bytes)) v w
 chunks b₁ b₂ s bytes few h g =
     is (b₁ + b₂) few s bytes h
-    ∙ ap (answered bytes) (two-walks b₁ b₂ s bytes on)
+    ∙ ap (walk-answer bytes) (two-walks b₁ b₂ s bytes on)
     ∙ joined
-    ∙ ap (λ (w : Walking). and-then (some-gap (w .taken) (drop (v .read) bytes)) (answered bytes v) w)
+    ∙ ap (λ (w : Walking). and-then (some-gap (w .taken) (drop (v .read) bytes)) (walk-answer bytes v) w)
     (sym (is b₂ (omega arith) (v .session) (drop (v .read) bytes) (walk-stays b₁ s bytes h)))
     ∙ ap (λ (x : Walking).
     and-then (some-gap (walk-of (x .session) (drop (x .read) bytes) b₂ .taken) (drop (x .read) bytes)) x (walk-of (x .session) (drop (x .read) bytes) b₂)) (sym first)
@@ -69,10 +69,10 @@ chunks b₁ b₂ s bytes few h g =
     v : Walk
     v = walk-on b₁ s bytes
 
-    is : (b : ℕ) → b ≤ 4_096 → (x : Session) (l : List ℕ) → out-of-range x ≡ false → walk-of x l b ≡ answered l (walk-on b x l)
-    is b k x l e = walk-taken x l b e ∙ ap (λ (n : ℕ). answered l (walk-on n x l)) (within b k)
+    is : (b : ℕ) → b ≤ 4_096 → (x : Session) (l : List ℕ) → out-of-range x ≡ false → walk-of x l b ≡ walk-answer l (walk-on b x l)
+    is b k x l e = walk-taken x l b e ∙ ap (λ (n : ℕ). walk-answer l (walk-on n x l)) (within b k)
 
-    first : walk-of s bytes b₁ ≡ answered bytes (walk-on b₁ s bytes)
+    first : walk-of s bytes b₁ ≡ walk-answer bytes (walk-on b₁ s bytes)
     first = is b₁ (omega arith) s bytes h
 
     on : GoesOn (v .stop) b₂
@@ -81,7 +81,7 @@ chunks b₁ b₂ s bytes few h g =
     w₂ : Walk
     w₂ = walk-on b₂ (v .session) (drop (v .read) bytes)
 
-    joined : answered bytes (then v w₂) ≡ and-then (some-gap (w₂ .taken) (drop (v .read) bytes)) (answered bytes v) (answered (drop (v .read) bytes) w₂)
+    joined : walk-answer bytes (then v w₂) ≡ and-then (some-gap (w₂ .taken) (drop (v .read) bytes)) (walk-answer bytes v) (walk-answer (drop (v .read) bytes) w₂)
     joined =
         let lost : last-lost 0 (v .taken + w₂ .taken) bytes ≡ last-lost (last-lost 0 (v .taken) bytes) (w₂ .taken) (drop (v .read) bytes) =
         last-append 0 (v .taken) (w₂ .taken) bytes

@@ -14,7 +14,7 @@ use Rattle.walk.specs.declared.Stop.{Stop}
 use Rattle.walk.specs.declared.Stop.the-variants.{Budget, End, Refused}
 use Rattle.walk.specs.declared.Did.{Did}
 use Rattle.walk.specs.declared.Did.the-variants.{Took, Ended, Not}
-use Rattle.walk.specs.Walk.{Walk, one-of, stopped, one-more, walked-by, walk-on, lost-with, last-lost, answered, budget-of, walk-of}
+use Rattle.walk.specs.Walk.{Walk, one-of, stopped, one-more, walked-by, walk-on, lost-with, last-lost, walk-answer, budget-of, walk-of}
 use Rattle.walk.specs.Lent.{did-by, Turned, HasGone}
 use Rattle.walk.proofs.Lost.{last-next}
 
@@ -160,8 +160,8 @@ turned-part {s} {after} {lost} {next} {did} bytes at e h =
 pub walk-refused : (s : Session) (bytes : List ℕ) (budget : ℕ) → out-of-range s ≡ true
     → walk-of s bytes budget ≡ record { taken = 0; stop = 2; refusal = 10; read = 0; lost = 0; session = s }
 unfolding walk-of last-lost
-walk-refused s bytes budget e = ap (λ (t : Bool). answered bytes (cond t (stopped s (Refused 10) 0) (walk-on (budget-of budget) s bytes))) e
+walk-refused s bytes budget e = ap (λ (t : Bool). walk-answer bytes (cond t (stopped s (Refused 10) 0) (walk-on (budget-of budget) s bytes))) e
 
-pub walk-taken : (s : Session) (bytes : List ℕ) (budget : ℕ) → out-of-range s ≡ false → walk-of s bytes budget ≡ answered bytes (walk-on (budget-of budget) s bytes)
+pub walk-taken : (s : Session) (bytes : List ℕ) (budget : ℕ) → out-of-range s ≡ false → walk-of s bytes budget ≡ walk-answer bytes (walk-on (budget-of budget) s bytes)
 unfolding walk-of
-walk-taken s bytes budget e = ap (λ (t : Bool). answered bytes (cond t (stopped s (Refused 10) 0) (walk-on (budget-of budget) s bytes))) e
+walk-taken s bytes budget e = ap (λ (t : Bool). walk-answer bytes (cond t (stopped s (Refused 10) 0) (walk-on (budget-of budget) s bytes))) e

@@ -17,7 +17,7 @@ use Rattle.session_record.specs.Record.{latest-of, out-of-range}
 use Rattle.session_record.specs.Step.{stepped-of, stepped-through}
 use Rattle.walk.specs.declared.Stop.{Stop}
 use Rattle.walk.specs.declared.Stop.the-variants.{Budget, End, Refused}
-use Rattle.walk.specs.Walk.{Walk, One, one-call, one-read, one-of, stopped, one-more, walked-by, walk-on, answered, budget-of, walk-of, rest-start}
+use Rattle.walk.specs.Walk.{Walk, One, one-call, one-read, one-of, stopped, one-more, walked-by, walk-on, walk-answer, budget-of, walk-of, rest-start}
 
 -- ---- single steps
 
@@ -222,8 +222,8 @@ pub rest-behind : (s : Session) (bytes : List ℕ) (budget : ℕ) → rest-start
 unfolding walk-of
 rest-behind s bytes budget = le-start (out-of-range s)
   where
-    le-start : (b : Bool) → rest-start (length bytes) (answered bytes (cond b (stopped s (Refused 10) 0) (walk-on (budget-of budget) s bytes)) .read)
-        ≡ answered bytes (cond b (stopped s (Refused 10) 0) (walk-on (budget-of budget) s bytes)) .read
+    le-start : (b : Bool) → rest-start (length bytes) (walk-answer bytes (cond b (stopped s (Refused 10) 0) (walk-on (budget-of budget) s bytes)) .read)
+        ≡ walk-answer bytes (cond b (stopped s (Refused 10) 0) (walk-on (budget-of budget) s bytes)) .read
     le-start true = ap (λ (t : Bool). cond t 0 0) (le-ltb (length bytes) 0 (omega arith))
     le-start false =
         ap (λ (t : Bool). cond t 0 (walk-on (budget-of budget) s bytes .read))

@@ -120,20 +120,13 @@ in-numbers w =
     }
 
 -- What a walk over these bytes answers: "0 if none, kept after a refusal".
-abbrev pub answered : List ℕ → Walk → Walking
-answered bytes w =
-    record {
-      taken = w .taken;
-      stop = stop-number (w .stop);
-      refusal = stop-refusal (w .stop);
-      read = w .read;
-      lost = last-lost 0 (w .taken) bytes;
-      session = w .session;
-    }
+abbrev pub walk-answer : List ℕ → Walk → Walking
+walk-answer bytes w =
+    in-numbers (record { taken = w .taken; stop = w .stop; read = w .read; lost = last-lost 0 (w .taken) bytes; session = w .session })
 
 -- A record that refusal 10 names is refused, whatever the budget.
 unfoldable pub walk-of : Session → List ℕ → ℕ → Walking
-walk-of s bytes budget = answered bytes (cond (out-of-range s) (stopped s (Refused 10) 0) (walk-on (budget-of budget) s bytes))
+walk-of s bytes budget = walk-answer bytes (cond (out-of-range s) (stopped s (Refused 10) 0) (walk-on (budget-of budget) s bytes))
 
 -- "the rest, which starts at the record that was not taken, or behind the end": behind the bytes that the walk read. More than
 -- there are, which no walk of these bytes reads, leaves the whole slice.

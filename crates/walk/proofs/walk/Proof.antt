@@ -8,7 +8,7 @@ use Rattle.session_record.specs.Record.{out-of-range}
 use Rattle.session_record.specs.Lent.{in-arrays, tidied, Ready}
 use Rattle.session_record.proofs.Range.{ranged}
 use Rattle.session_record.proofs.Ready.{tidied-ready}
-use Rattle.walk.specs.Walk.{Walk, Walking, walk-on, last-lost, in-numbers, answered, budget-of, walk-of}
+use Rattle.walk.specs.Walk.{Walk, Walking, walk-on, last-lost, in-numbers, walk-answer, budget-of, walk-of}
 use Rattle.walk.proofs.Going.{walk-refused, walk-taken}
 use Rattle.walk.proofs.Tidied.{Same, took, none, same-walk}
 use borrow.Author.Needs.{needs}
@@ -74,21 +74,21 @@ module _ (k : tie.After-records) where
   abbrev promised : Walking
   promised = walk-of s bytes (budget (start k))
 
-  is-on : answered bytes on ≡ promised
+  is-on : walk-answer bytes on ≡ promised
   is-on = sym (walk-taken s bytes (budget (start k)) fits)
 
   by-same : (w : Walk) → Same s fits on w
-      → (w .taken ≡ 0 → answered bytes (record { taken = 0; stop = w .stop; read = w .read; session = s }) ≡ promised)
-      × ((w .taken ≡ 0 → ⊥) → answered bytes w ≡ promised)
-  by-same w (took q h) = ((λ z. absurd (h z)), (λ n. ap (answered bytes) (sym q) ∙ is-on))
-  by-same w (none z q) = ((λ y. ap (answered bytes) (sym q) ∙ is-on), (λ n. absurd (n z)))
+      → (w .taken ≡ 0 → walk-answer bytes (record { taken = 0; stop = w .stop; read = w .read; session = s }) ≡ promised)
+      × ((w .taken ≡ 0 → ⊥) → walk-answer bytes w ≡ promised)
+  by-same w (took q h) = ((λ z. absurd (h z)), (λ n. ap (walk-answer bytes) (sym q) ∙ is-on))
+  by-same w (none z q) = ((λ y. ap (walk-answer bytes) (sym q) ∙ is-on), (λ n. absurd (n z)))
 
   unchanged : k .records .result .taken ≡ 0 → walk-on most (tidied s) bytes ≡ lent k
       → in-numbers (record { taken = 0; stop = k .records .result .stop; read = k .records .result .read; lost = 0; session = s }) ≡ promised
   unfolding last-lost
   unchanged z e = by-same (lent k) (subst (Same s fits on) e (same-walk s fits most bytes)) .0 z
 
-  changed : (k .records .result .taken ≡ 0 → ⊥) → walk-on most (tidied s) bytes ≡ lent k → answered bytes (lent k) ≡ promised
+  changed : (k .records .result .taken ≡ 0 → ⊥) → walk-on most (tidied s) bytes ≡ lent k → walk-answer bytes (lent k) ≡ promised
   changed z e = by-same (lent k) (subst (Same s fits on) e (same-walk s fits most bytes)) .1 z
 
 unfit-requires : tie.Need-unfit-requires
