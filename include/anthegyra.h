@@ -25,14 +25,15 @@
  * it; that line begins a new run. A mark says how many lines were lost, 0 to 62, or 63 for more or
  * unknown; no answer depends on it.
  *
- * Longer logs. Behind 16,383 records begin the next stretch with a gap mark at the last stamp of the one
- * before, and go on with the lines behind that. A stretch that began with those lines alone could
- * accuse falsely: what was sent before them may have arrived among them. With bounds 10 and 30, the
- * sequence !5 !6 and no output allowed, ?7 @180, !5 @200, !6 @200, !2 @201 is suspect, since ?7 may
- * stand between !5 and !6; without ?7 the same outputs are certain; with a gap mark at 180 in its place
- * they are blind, which is right. The mark costs what every gap costs: the answer is blind until a line
- * comes more than 2 * UB later, and a breach that begins before that line goes unseen. Cut at a quiet of
- * more than 2 * UB, where there is one, and nothing is blind. The mark is one of the next 16,383.
+ * Longer logs. Behind 16,383 records begin the next stretch with a gap mark, of 0 lost lines, at the
+ * last stamp of the one before, and go on with the lines behind that. A stretch that began with those
+ * lines alone could accuse falsely: what was sent before them may have arrived among them. With bounds
+ * 10 and 30, the sequence !5 !6 and no output allowed, ?7 @180, !5 @200, !6 @200, !2 @201 is
+ * suspect, since ?7 may stand between !5 and !6; without ?7 the same outputs are certain; with a
+ * gap mark at 180 in its place they are blind, which is right. The mark costs what every gap costs:
+ * the answer is blind until a line comes more than 2 * UB later, and a breach that begins before
+ * that line goes unseen. Cut at a quiet of more than 2 * UB, where there is one, and nothing is
+ * blind. The mark is one of the next 16,383.
  */
 #ifndef ANTHEGYRA_H
 #define ANTHEGYRA_H
