@@ -64,8 +64,8 @@ pub demand-1-write-record : (kind action stamp before : ℕ) (buffer : List ℕ)
 unfolding write-refusal
 demand-1-write-record kind action stamp before buffer = record { first = refl; alone = record-not-written kind action stamp before buffer }
 
--- `read_tap` with `tap_rest` (document 02, CR 4): 7, 8, also of a gap with an action, 4, of the stamp before plus the wrapped difference, or for an end of the stamp
--- before; zeros, and no byte is taken.
+-- `read_tap` with `tap_rest` (document 02, CR 4): 7; 8, also for a gap with an action (CR 7); 4, of the stamp before plus the wrapped
+-- difference, or for an end of the stamp before; zeros, and no byte is taken.
 pub demand-1-read-tap : (s : List ℕ) (before : ℕ)
     → Refuses (tap-answer s before .refusal)
     (first-of (given 7 (ltb (length s) 5))

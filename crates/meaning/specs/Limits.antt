@@ -9,13 +9,13 @@ most-actions = 32
 abbrev pub last-action : ℕ
 last-action = 63
 
--- "1 ≤ LB ≤ UB ≤ 60,000,000"
-abbrev pub last-bound : ℕ
-last-bound = 60_000_000
-
 -- Document 02, CR 7: "0 to 62 as it is, 63 for more or unknown"
 abbrev pub most-lost : ℕ
 most-lost = 63
+
+-- "1 ≤ LB ≤ UB ≤ 60,000,000"
+abbrev pub last-bound : ℕ
+last-bound = 60_000_000
 
 -- "a stamp, 0 to 1,099,511,627,775 (2^40 − 1)"
 abbrev pub last-stamp : ℕ
