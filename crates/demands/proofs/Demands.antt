@@ -39,7 +39,8 @@ use Rattle.session_record.proofs.Running.{running-answer}
 use Rattle.walk.specs.Walk.{budget-of, walk-of, rest-start}
 use Rattle.stretch.specs.Judge.{judge-of, one-number}
 use Rattle.stretch.proofs.Judging.{one-long}
-use Rattle.printout.specs.Text.{header-text, stop-text, text-of}
+use Rattle.line_text.specs.Text.{text-of}
+use Rattle.printout.specs.Text.{header-text, stop-text}
 use Rattle.printed.specs.Printed.{printed-of}
 use Rattle.printed.specs.Listing.{listing-by}
 pub use Rattle.printed.proofs.Whole.{listing-taken, listing-refused, counted as listing-count}

@@ -7,7 +7,7 @@ use native.Mathlib.Nat.{pow-suc}
 use native.Mathlib.Omega.{arith}
 use lib.Dec.{ltb}
 use borrow.Author.Tests.{ltb-true, ltb-false}
-use Rattle.printout.specs.Text.{digit, digits, decimal}
+use Rattle.line_text.specs.Text.{digit, digits, decimal}
 use Rattle.demands.specs.Listing.{AllDigits, NoZeroFirst, read-digits, InDecimal}
 
 read-on : (b : ℕ) (xs ys : List ℕ) → read-digits b (xs ++ ys) ≡ read-digits (read-digits b xs) ys

@@ -14,9 +14,10 @@ use Rattle.session_record.specs.declared.Session.{Session}
 use Rattle.session_record.specs.Record.{count-of, out-of-range}
 use Rattle.session_record.specs.Step.{standing}
 use Rattle.walk.specs.Walk.{one-of}
-use Rattle.printout.specs.Text.{header-text, stop-text, text-of}
+use Rattle.line_text.specs.Text.{text-of}
+use Rattle.printout.specs.Text.{header-text, stop-text}
 use Rattle.printout.specs.Named.{named-line-text}
-use Rattle.printout.proofs.Fits.{text-held}
+use Rattle.line_text.proofs.Held.{text-held}
 use Rattle.printed.specs.declared.Printed.{Printed}
 use Rattle.printed.specs.Printed.{kind-of, call-text, printed-of, opening-text, begun-of}
 use Rattle.printed.specs.Listing.{shown, and-more, lines-of, records-text, listing-of, lines-by, listing-by}

@@ -24,7 +24,7 @@ pub use Rattle.name_list.proofs.Packed.{one-packing as list-one-packing, one-en
 pub use Rattle.name_list.proofs.Meaning.{one-list}
 use Rattle.printout.specs.Text.{header-text, stop-text}
 use Rattle.printout.specs.Named.{named-header-text}
-use Rattle.printout.proofs.Fits.{text-held}
+use Rattle.line_text.proofs.Held.{text-held}
 use Rattle.session_record.specs.declared.Session.{Session}
 use Rattle.walk.specs.Walk.{walk-of}
 use Rattle.printed.specs.declared.Printed.{Printed}

@@ -25,8 +25,8 @@ use Rattle.judged_rest.specs.Lent.{Lines, count, run-of}
 use Rattle.first_order.specs.Search.{Pair}
 use Rattle.why.specs.Why.{shorter, uneven, why-refusal, over, Shows, ShowsBy, Told, ReasonBy, IsReason}
 use Rattle.why.proofs.Determined.{taken-parts}
-use Rattle.printout.specs.Text.{decimal}
-use Rattle.printout.specs.Reason.{signed}
+use Rattle.line_text.specs.Text.{decimal}
+use Rattle.reason_text.specs.Reason.{signed}
 use Rattle.demands.specs.Refuses.{Refuses}
 use Rattle.demands.specs.Listing.{InDecimal}
 use Rattle.demands.specs.Why.{Shown, ShownBy, FirstReached}

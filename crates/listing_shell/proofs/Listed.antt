@@ -10,7 +10,7 @@ use Rattle.record_form.specs.ReadAs.{case-as}
 use Rattle.session_record.specs.declared.Session.{Session}
 use Rattle.session_record.specs.Record.{latest-of}
 use Rattle.session_record.specs.Lent.{Ready}
-use Rattle.printout.specs.Text.{room}
+use Rattle.line_text.specs.Text.{room}
 use Rattle.printed.specs.declared.Printed.{Printed}
 use Rattle.printed.specs.declared.lent.Added.{Added}
 use Rattle.printed.specs.Lent.{Adds}

@@ -17,10 +17,12 @@ use Rattle.session_record.specs.declared.Session.{Session}
 use Rattle.session_record.specs.Record.{latest-of, count-of, out-of-range}
 use Rattle.session_record.specs.Step.{standing, stepped-of}
 use Rattle.walk.specs.Walk.{One, one-call, one-read, one-of}
-use Rattle.printout.specs.declared.Text.{Text}
-use Rattle.printout.specs.Text.{space, newline, decimal, letter, word, line-text, end-text, stop-text, room, text-of}
+use Rattle.line_text.specs.declared.Text.{Text}
+use Rattle.line_text.specs.Text.{space, newline, decimal, room, text-of}
+use Rattle.printout.specs.Text.{letter, word, line-text, end-text, stop-text}
 use Rattle.printout.specs.Named.{front-text, back-text, shown-name, named-line-text}
-use Rattle.printout.proofs.Fits.{text-held, line-fits}
+use Rattle.line_text.proofs.Held.{text-held}
+use Rattle.printout.proofs.Fits.{line-fits}
 use Rattle.names.proofs.Named.{name-short}
 use Rattle.printed.specs.Listing.{shown}
 use Rattle.printed.specs.declared.Printed.{Printed}

@@ -10,8 +10,8 @@ use Rattle.record_form.specs.declared.RecordRead.{RecordRead}
 use Rattle.record_form.specs.declared.RecordRead.the-variants.{Input, Output, Gap, End, Refused}
 use Rattle.session_record.specs.declared.Session.{Session}
 use Rattle.names.specs.Lookup.{name-of}
-use Rattle.printout.specs.declared.Text.{Text}
-use Rattle.printout.specs.Text.{text-of}
+use Rattle.line_text.specs.declared.Text.{Text}
+use Rattle.line_text.specs.Text.{text-of}
 use Rattle.printed.specs.Printed.{call-text}
 
 -- What a line shows of the record that was read: its kind, its action, of a gap its number of lost lines, and the name.

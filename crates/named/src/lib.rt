@@ -1,12 +1,12 @@
 // The listing with names: what the second program adds to it for each record.
 ghost use mathlib.Core.Path.{_≡_};
-ghost use Rattle.printout.specs.Text.{text-of};
+ghost use Rattle.line_text.specs.Text.{text-of};
 ghost use Rattle.printout.specs.Named.{front-text};
 ghost use Rattle.named_text.specs.Text.{named-text-of};
 ghost use Rattle.named.specs.Named.{names-of, named-call-text, named-of};
 ghost use Rattle.named.specs.Insert.{kind-as, action-as, name-as, IsLine};
+use line_text::Text;
 use named_text::NamedText;
-use printout::Text;
 use record_form::RecordRead;
 use session_record::Session;
 

@@ -7,8 +7,8 @@ use native.Mathlib.Numerals.{add-one}
 use native.Mathlib.Omega.{arith}
 use lib.ListN.{length, length-append, set, take, drop, getD, length-take, length-drop}
 use lib.Seq.{take-suc, take-all, take-take, take-add, drop-at, length-take-le}
-use Rattle.printout.proofs.Growth.{room-left}
-use Rattle.printout.specs.Text.{space, room}
+use Rattle.line_text.proofs.Growth.{room-left}
+use Rattle.line_text.specs.Text.{space, room}
 use Rattle.printout.specs.Named.{shown-name}
 use Rattle.named_text.specs.declared.NamedText.{NamedText}
 use Rattle.named_text.specs.Text.{named-room, named-text-of}

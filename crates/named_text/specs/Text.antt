@@ -2,7 +2,7 @@
 use Prim.Native.Nat.{ℕ, _-_}
 use mathlib.Core.List.{List, _∷_, _++_}
 use lib.ListN.{length, replicate, take, drop}
-use Rattle.printout.specs.Text.{space}
+use Rattle.line_text.specs.Text.{space}
 use Rattle.printout.specs.Named.{shown-name}
 use Rattle.named_text.specs.declared.NamedText.{NamedText}
 

@@ -3,11 +3,11 @@ ghost use mathlib.Core.Path.{_≡_};
 ghost use mathlib.Core.List.{[], _∷_};
 ghost use Prim.Native.Nat.{_+_, _-_, _≤_, _<_};
 ghost use lib.ListN.{length, take, drop};
-ghost use Rattle.printout.specs.Text.{room};
+ghost use Rattle.line_text.specs.Text.{room};
 ghost use Rattle.printout.specs.Named.{shown-name};
 ghost use Rattle.named_text.specs.Text.{named-room, named-text-of, inserted};
 ghost use Rattle.named_text.specs.Behind.{Behind};
-use printout::Text;
+use line_text::Text;
 
 // A line of the listing with names and its newline, and zeros behind it. The longest has 135 bytes.
 pub struct NamedText {

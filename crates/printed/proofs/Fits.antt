@@ -11,8 +11,10 @@ use Rattle.property_form.specs.Read.{read}
 use Rattle.record_form.specs.Record.{Reader}
 use Rattle.record_form.specs.ReadAs.{read-as}
 use Rattle.walk.specs.Walk.{One, one-read}
-use Rattle.printout.specs.Text.{room, stop-text}
-use Rattle.printout.proofs.Fits.{text-len, line-fits, end-fits, stop-fits}
+use Rattle.line_text.specs.Text.{room}
+use Rattle.printout.specs.Text.{stop-text}
+use Rattle.line_text.proofs.Held.{text-len}
+use Rattle.printout.proofs.Fits.{line-fits, end-fits, stop-fits}
 use Rattle.printed.specs.Printed.{call-text, last-line, by-one, printed-by, opening-text, begun-of}
 
 call-fits : (number : ℕ) (c : Call) (after : Session) → length (call-text number c after) ≤ room

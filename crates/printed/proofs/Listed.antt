@@ -20,7 +20,8 @@ use Rattle.session_record.specs.Step.{stepped-of}
 use Rattle.session_record.specs.Lent.{Ready, Advanced}
 use Rattle.walk.specs.Walk.{One, one-call, try-call, one-read}
 use Rattle.walk.proofs.Dids.{refused-stays}
-use Rattle.printout.specs.Text.{line-text, end-text, stop-text, text-of}
+use Rattle.line_text.specs.Text.{text-of}
+use Rattle.printout.specs.Text.{line-text, end-text, stop-text}
 use Rattle.printed.specs.declared.Printed.{Printed}
 use Rattle.printed.specs.declared.lent.Added.{Added}
 use Rattle.printed.specs.Printed.{one-after, kind-of, call-text, last-line, by-one, printed-by, opening-text}

@@ -12,8 +12,9 @@ use Rattle.session_record.specs.declared.Session.{Session}
 use Rattle.session_record.specs.Record.{latest-of, out-of-range}
 use Rattle.session_record.specs.Step.{stepped-of}
 use Rattle.walk.specs.Walk.{One, one-call, one-read}
-use Rattle.printout.specs.Text.{end-text, stop-text, text-of}
-use Rattle.printout.proofs.Fits.{text-held}
+use Rattle.line_text.specs.Text.{text-of}
+use Rattle.printout.specs.Text.{end-text, stop-text}
+use Rattle.line_text.proofs.Held.{text-held}
 use Rattle.printed.specs.declared.Printed.{Printed}
 use Rattle.printed.specs.Printed.{one-after, call-text, by-one}
 use Rattle.printed.specs.Listing.{and-more, lines-by}

@@ -17,8 +17,9 @@ use Rattle.session_record.specs.declared.Session.{Session}
 use Rattle.session_record.specs.Record.{latest-of, out-of-range}
 use Rattle.session_record.specs.Step.{fresh-of}
 use Rattle.walk.specs.Walk.{one-read}
-use Rattle.printout.specs.Text.{header-text, stop-text, text-of}
-use Rattle.printout.proofs.Fits.{text-held}
+use Rattle.line_text.specs.Text.{text-of}
+use Rattle.printout.specs.Text.{header-text, stop-text}
+use Rattle.line_text.proofs.Held.{text-held}
 use Rattle.printed.specs.declared.Printed.{Printed}
 use Rattle.printed.specs.Printed.{one-after, last-line, by-one, printed-by, opening-text, begun-of}
 use Rattle.printed.specs.Listing.{shown, and-more, lines-by, records-by, listing-by, count-after}

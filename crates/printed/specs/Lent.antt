@@ -10,7 +10,8 @@ use Rattle.session_record.specs.declared.Session.{Session}
 use Rattle.session_record.specs.declared.Told.{Told}
 use Rattle.session_record.specs.Lent.{Ready}
 use Rattle.walk.specs.Walk.{one-read}
-use Rattle.printout.specs.Text.{stop-text, text-of}
+use Rattle.line_text.specs.Text.{text-of}
+use Rattle.printout.specs.Text.{stop-text}
 use Rattle.printed.specs.declared.Printed.{Printed}
 use Rattle.printed.specs.declared.lent.Added.{Added}
 use Rattle.printed.specs.Printed.{one-after, by-one}

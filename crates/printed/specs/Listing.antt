@@ -6,7 +6,7 @@ use lib.ListN.{length, take, drop}
 use Rattle.meaning.specs.Calls.{Call}
 use Rattle.record_form.specs.Record.{Reader, record-size, record-answer}
 use Rattle.session_record.specs.declared.Session.{Session}
-use Rattle.printout.specs.declared.Text.{Text}
+use Rattle.line_text.specs.declared.Text.{Text}
 use Rattle.printout.specs.Text.{header-text}
 use Rattle.printed.specs.declared.Printed.{Printed}
 use Rattle.printed.specs.Printed.{one-after, printed-by, begun-of}

@@ -13,7 +13,8 @@ use Rattle.session_record.specs.declared.Session.{Session}
 use Rattle.session_record.specs.Record.{count-of, latest-of, out-of-range}
 use Rattle.session_record.specs.Step.{fresh-of, standing}
 use Rattle.walk.specs.Walk.{One, one-read}
-use Rattle.printout.specs.Text.{line-text, end-text, stop-text, text-of}
+use Rattle.line_text.specs.Text.{text-of}
+use Rattle.printout.specs.Text.{line-text, end-text, stop-text}
 use Rattle.printed.specs.declared.Printed.{Printed}
 
 -- The number of records taken, one more than before. It is kept in 64 bits: 0 comes after 2 ^ 64 − 1.

@@ -9,7 +9,7 @@ ghost use Rattle.printout.specs.Text.{line-text, end-text, stop-text};
 ghost use Rattle.printed.specs.Printed.{one-after};
 ghost use Rattle.printed.specs.Lent.{last-added, call-added, Adds};
 use held::Status;
-use printout::Text;
+use line_text::Text;
 use property::Property;
 use record_form::RecordRead;
 use session_record::Told;

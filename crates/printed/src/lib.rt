@@ -6,9 +6,9 @@ ghost use mathlib.Core.List.{List, [], _∷_};
 ghost use Prim.Native.Nat.{ℕ, _≤_};
 ghost use Rattle.property_form.specs.Form.{form-size};
 ghost use Rattle.property_form.specs.Read.{length-read};
-ghost use Rattle.printout.specs.Text.{text-of};
+ghost use Rattle.line_text.specs.Text.{text-of};
 ghost use Rattle.printed.specs.Printed.{printed-of, opening-text, begun-of};
-use printout::Text;
+use line_text::Text;
 use session_record::Session;
 
 // What one part of the input adds to the listing, and what the next part starts from.

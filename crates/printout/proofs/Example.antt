@@ -1,13 +1,12 @@
 -- Document 01's listing of case 15, byte for byte, by the definitions alone; and a gap's line and a `stop` line, which it has not; and
--- lines of document 02, CR 2 and CR 6.
+-- lines of document 02, CR 2.
 use Prim.Native.Nat.{ℕ}
 use mathlib.Core.Path.{_≡_, refl}
 use mathlib.Core.List.{List, [], _∷_, _++_}
-use lib.IntN.{pos, negsuc}
 use Rattle.meaning.specs.Node.{Verdict, verdict-number}
-use Rattle.printout.specs.Text.{digits, decimal, letter, clear, suspect, certain, blind, word, header-text, line-text, end-text, stop-text}
+use Rattle.line_text.specs.Text.{digits, decimal}
+use Rattle.printout.specs.Text.{letter, clear, suspect, certain, blind, word, header-text, line-text, end-text, stop-text}
 use Rattle.printout.specs.Named.{named-header-text, front-text, back-text, shown-name, named-line-text}
-use Rattle.printout.specs.Reason.{signed, reached-text, placed-text, blind-text, stop-alone-text}
 
 -- `line kind action stamp verdict open`, `1 I 0 100 clear 1`, `2 O 2 120 suspect 1`, `3 O 2 161 certain 0`, `end 3`
 abbrev case-15-listing : List ℕ
@@ -40,29 +39,6 @@ pub named-lines : named-header-text ++ named-line-text 1 0 0 (115 ∷ 119 ∷ 10
     ∷ 52 ∷ 32 ∷ 71 ∷ 32 ∷ 48 ∷ 32 ∷ 45 ∷ 32 ∷ 50 ∷ 48 ∷ 48 ∷ 32 ∷ 98 ∷ 108 ∷ 105 ∷ 110 ∷ 100 ∷ 32 ∷ 48 ∷ 10 ∷ []
 unfolding named-header-text named-line-text front-text back-text shown-name decimal digits letter word
 named-lines = refl
-
--- The reasons: `certain 3`, `2 90`, `1 -30`, `3 0`; `blind`; `stop 13`
-pub reasons : reached-text 2 3 ++ placed-text 2 (pos 90) ++ placed-text 1 (negsuc 29) ++ placed-text 3 (pos 0)
-    ≡ 99 ∷ 101 ∷ 114 ∷ 116 ∷ 97 ∷ 105 ∷ 110 ∷ 32 ∷ 51 ∷ 10 ∷ 50 ∷ 32 ∷ 57 ∷ 48 ∷ 10 ∷ 49 ∷ 32 ∷ 45 ∷ 51 ∷ 48 ∷ 10 ∷ 51 ∷ 32 ∷ 48 ∷ 10 ∷ []
-unfolding reached-text placed-text signed decimal digits word
-reasons = refl
-
-pub blind-line : blind-text ≡ 98 ∷ 108 ∷ 105 ∷ 110 ∷ 100 ∷ 10 ∷ []
-unfolding blind-text
-blind-line = refl
-
-pub stop-alone-line : stop-alone-text 13 ≡ 115 ∷ 116 ∷ 111 ∷ 112 ∷ 32 ∷ 49 ∷ 51 ∷ 10 ∷ []
-unfolding stop-alone-text decimal digits
-stop-alone-line = refl
-
--- The largest number of 64 bits, in twenty digits, and the smallest.
-pub largest : decimal 18446744073709551615 ≡ 49 ∷ 56 ∷ 52 ∷ 52 ∷ 54 ∷ 55 ∷ 52 ∷ 52 ∷ 48 ∷ 55 ∷ 51 ∷ 55 ∷ 48 ∷ 57 ∷ 53 ∷ 53 ∷ 49 ∷ 54 ∷ 49 ∷ 53 ∷ []
-unfolding decimal digits
-largest = refl
-
-pub smallest : decimal 0 ≡ 48 ∷ []
-unfolding decimal digits
-smallest = refl
 
 -- Each verdict by its own name.
 abbrev name : Verdict → List ℕ

@@ -1,5 +1,3 @@
--- The definitions that a human must believe: the text of the listing, and of reasons. `Append`, which only the private functions name, comes after.
+-- The definitions that a human must believe: the text of the listing, and of a line with a name.
 pub mod Text
 pub mod Named
-pub mod Reason
-pub mod Append

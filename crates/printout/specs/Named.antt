@@ -2,7 +2,8 @@
 -- for a gap (header word `name`)". A line of the listing is its front and its back, and the name stands between them.
 use Prim.Native.Nat.{ℕ}
 use mathlib.Core.List.{List, [], _∷_, _++_}
-use Rattle.printout.specs.Text.{space, newline, decimal, letter, word}
+use Rattle.line_text.specs.Text.{space, newline, decimal}
+use Rattle.printout.specs.Text.{letter, word}
 
 -- `line kind action name stamp verdict open`
 unfoldable pub named-header-text : List ℕ

@@ -1,31 +1,8 @@
 -- Document 01, case 15: the text of the listing, as bytes. "Fields: record number from 1; I, O or G; action; stamp; verdict
 -- after it; number open." One space stands between two fields, and a newline ends each line.
-use Prim.Native.Nat.{ℕ, zero, suc, _+_, _-_, _/_, _%_}
-use mathlib.Core.Bool.{cond}
+use Prim.Native.Nat.{ℕ, zero, suc}
 use mathlib.Core.List.{List, [], _∷_, _++_}
-use lib.ListN.{length, replicate}
-use lib.Dec.{ltb}
-use Rattle.printout.specs.declared.Text.{Text}
-
-abbrev pub space : ℕ
-space = 32
-
-abbrev pub newline : ℕ
-newline = 10
-
--- The byte of a digit: 48 is "0", 57 is "9".
-abbrev pub digit : ℕ → ℕ
-digit d = 48 + d
-
--- A number in at most so many digits, most significant first: below ten its digit alone, else the digits of its tenth and
--- then its last digit.
-unfoldable pub digits : ℕ → ℕ → List ℕ
-digits zero v = []
-digits (suc most) v = cond (ltb v 10) (digit v ∷ []) (digits most (v / 10) ++ digit (v % 10) ∷ [])
-
--- A number in decimal: no leading zeros, 0 is "0". Twenty digits hold every number below 2 ^ 64 (and no other is printed).
-unfoldable pub decimal : ℕ → List ℕ
-decimal v = digits 20 v
+use Rattle.line_text.specs.Text.{space, newline, decimal}
 
 -- The letter of a kind, 0 input, 1 output, 2 gap: "I, O or G", which are 73, 79 and 71. No listing has another kind; it would be G.
 unfoldable pub letter : ℕ → ℕ
@@ -85,11 +62,3 @@ end-text count = (101 ∷ 110 ∷ 100 ∷ []) ++ (space ∷ decimal count) ++ (n
 unfoldable pub stop-text : ℕ → ℕ → List ℕ
 stop-text count refusal =
     (115 ∷ 116 ∷ 111 ∷ 112 ∷ []) ++ (space ∷ decimal count) ++ (space ∷ decimal refusal) ++ (newline ∷ [])
-
--- The bytes of an answer: the longest line has 94.
-abbrev pub room : ℕ
-room = 96
-
--- The answer that holds a text: its bytes, zeros behind them, and their number.
-unfoldable pub text-of : List ℕ → Text
-text-of l = record { bytes = l ++ replicate (room - length l) 0; len = length l }

@@ -58,7 +58,7 @@ fn next(
 
 // The one line after a refusal.
 fn stop(refusal: u64) {
-    listing_shell::write(printout::reason::stop(refusal));
+    listing_shell::write(reason_text::stop(refusal));
 }
 
 // Writes an order, a line at a time, and answers whether it could be written.
@@ -67,7 +67,7 @@ fn order(numbers: &[u64; 256], moments: &[i64; 256], count: usize) -> bool
 {
     let mut i = 0;
     while i < count {
-        if !listing_shell::write(printout::reason::placed(numbers[i], moments[i])) {
+        if !listing_shell::write(reason_text::placed(numbers[i], moments[i])) {
             return false;
         }
         i += 1;
@@ -90,7 +90,7 @@ fn found(
         stop(r.refusal);
         return;
     }
-    if !listing_shell::write(printout::reason::reached(r.verdict, r.line)) {
+    if !listing_shell::write(reason_text::reached(r.verdict, r.line)) {
         return;
     }
     if !order(numbers, moments, count) {
@@ -169,7 +169,7 @@ fn records(fd: i32, s: Session)
             }
             Did::Ended => {
                 if status.blind {
-                    listing_shell::write(printout::reason::blind());
+                    listing_shell::write(reason_text::blind());
                     return;
                 }
                 tell(p, &outputs, &actions, &stamps, count);

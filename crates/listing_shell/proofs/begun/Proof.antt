@@ -3,7 +3,7 @@ use Prim.Native.Nat.{_≤_}
 use mathlib.Core.Path.{_≡_, sym, subst}
 use mathlib.Core.Bool.{true}
 use Rattle.session_record.specs.Lent.{Ready}
-use Rattle.printout.specs.Text.{room}
+use Rattle.line_text.specs.Text.{room}
 use Rattle.printed.specs.declared.Printed.{Printed}
 use Rattle.printed.proofs.Fits.{begun-fits}
 use Rattle.printed.proofs.Walks.{begins-ready}

@@ -1,9 +1,10 @@
 -- `listing_shell::list` is safe: the header fits its room, and records are read behind a property that was taken.
 use Prim.Native.Nat.{_≤_}
 use mathlib.Core.Path.{sym, subst}
-use Rattle.printout.specs.declared.Text.{Text}
-use Rattle.printout.specs.Text.{room}
-use Rattle.printout.proofs.Fits.{text-len, header-fits}
+use Rattle.line_text.specs.declared.Text.{Text}
+use Rattle.line_text.specs.Text.{room}
+use Rattle.line_text.proofs.Held.{text-len}
+use Rattle.printout.proofs.Fits.{header-fits}
 use borrow.Author.Needs.{needs}
 use Rattle.listing_shell.proofs.list.Statement.{statement}
 use Rattle.listing_shell.proofs.list.Tie as tie

@@ -2,7 +2,7 @@
 use Prim.Native.Nat.{ℕ}
 use mathlib.Core.Path.{_≡_, sym, _∙_, ap}
 use Rattle.record_form.specs.declared.RecordRead.{RecordRead}
-use Rattle.printout.specs.Text.{text-of}
+use Rattle.line_text.specs.Text.{text-of}
 use Rattle.printout.specs.Named.{front-text}
 use Rattle.named.specs.Insert.{kind-as, action-as}
 use borrow.Author.Needs.{needs}

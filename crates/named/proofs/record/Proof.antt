@@ -6,7 +6,7 @@ use mathlib.Core.Bool.{true}
 use denote.Ref.{now}
 use Rattle.meaning.specs.Words.{Action}
 use Rattle.session_record.specs.declared.Session.{Session}
-use Rattle.printout.specs.Text.{room}
+use Rattle.line_text.specs.Text.{room}
 use Rattle.record_form.specs.Record.{record-answer}
 use Rattle.printed.proofs.Fits.{printed-fits}
 use Rattle.printed.specs.declared.Printed.{Printed}

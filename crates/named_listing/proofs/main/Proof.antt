@@ -1,9 +1,10 @@
 -- `named_listing::main` is safe: the header fits its room, and no more of a list is lent than was read.
 use Prim.Native.Nat.{_≤_}
 use mathlib.Core.Path.{sym, subst}
-use Rattle.printout.specs.declared.Text.{Text}
-use Rattle.printout.specs.Text.{room}
-use Rattle.printout.proofs.Fits.{text-len, named-header-fits}
+use Rattle.line_text.specs.declared.Text.{Text}
+use Rattle.line_text.specs.Text.{room}
+use Rattle.line_text.proofs.Held.{text-len}
+use Rattle.printout.proofs.Fits.{named-header-fits}
 use borrow.Author.Needs.{needs}
 use Rattle.named_listing.proofs.main.Statement.{statement}
 use Rattle.named_listing.proofs.main.Tie as tie

@@ -1,9 +1,10 @@
 -- `named_listing::stop` is safe: the line fits its room.
 use Prim.Native.Nat.{_≤_}
 use mathlib.Core.Path.{sym, subst}
-use Rattle.printout.specs.declared.Text.{Text}
-use Rattle.printout.specs.Text.{room}
-use Rattle.printout.proofs.Fits.{text-len, stop-fits}
+use Rattle.line_text.specs.declared.Text.{Text}
+use Rattle.line_text.specs.Text.{room}
+use Rattle.line_text.proofs.Held.{text-len}
+use Rattle.printout.proofs.Fits.{stop-fits}
 use borrow.Author.Needs.{needs}
 use Rattle.named_listing.proofs.stop.Statement.{statement}
 use Rattle.named_listing.proofs.stop.Tie as tie

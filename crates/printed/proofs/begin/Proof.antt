@@ -3,7 +3,7 @@ use mathlib.Core.Path.{ap, _∙_}
 use lib.Dec.{eqb}
 use Rattle.property_form.specs.declared.PropertyRead.{PropertyRead}
 use Rattle.session_record.specs.Step.{fresh-of}
-use Rattle.printout.specs.Text.{text-of}
+use Rattle.line_text.specs.Text.{text-of}
 use Rattle.printed.specs.Printed.{opening-text, begun-of}
 use borrow.Author.Needs.{needs}
 use Rattle.printed.proofs.begin.Statement.{statement}

@@ -1,6 +1,6 @@
 -- `printed::nothing` meets its contract: 96 zeros are the room that no text leaves.
 use mathlib.Core.Path.{refl}
-use Rattle.printout.specs.Text.{text-of}
+use Rattle.line_text.specs.Text.{text-of}
 use Rattle.printed.proofs.nothing.Statement.{statement}
 use Rattle.printed.proofs.nothing.Tie as tie
 

@@ -12,7 +12,7 @@ use Rattle.session_record.specs.Record.{latest-of, out-of-range}
 use Rattle.session_record.specs.Lent.{in-arrays, tidied, Ready}
 use Rattle.session_record.proofs.Range.{ranged}
 use Rattle.session_record.proofs.Ready.{tidied-ready}
-use Rattle.printout.specs.declared.Text.{Text}
+use Rattle.line_text.specs.declared.Text.{Text}
 use Rattle.printed.specs.Lent.{Adds}
 use Rattle.printed.proofs.Listed.{named}
 use Rattle.printed.proofs.Tidied.{by-value-more, by-value-last}

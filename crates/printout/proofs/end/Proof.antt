@@ -1,7 +1,7 @@
 -- `printout::end` meets its contract.
 use lib.Dec.{lit≤}
 use Rattle.printout.specs.Text.{end-text}
-use Rattle.printout.proofs.Growth.{then, whole}
+use Rattle.line_text.proofs.Growth.{then, whole}
 use borrow.Author.Needs.{needs}
 use Rattle.printout.proofs.end.Statement.{statement}
 use Rattle.printout.proofs.end.Tie as tie

@@ -3,9 +3,10 @@ use Prim.Native.Nat.{ℕ}
 use mathlib.Core.Path.{_≡_}
 use mathlib.Core.List.{List, [], _∷_, _++_, append-assoc}
 use lib.Dec.{lit≤}
-use Rattle.printout.specs.Text.{space, decimal, letter}
+use Rattle.line_text.specs.Text.{space, decimal}
+use Rattle.printout.specs.Text.{letter}
 use Rattle.printout.specs.Named.{front-text}
-use Rattle.printout.proofs.Growth.{then, renamed, whole}
+use Rattle.line_text.proofs.Growth.{then, renamed, whole}
 use borrow.Author.Needs.{needs}
 use Rattle.printout.proofs.front.Statement.{statement}
 use Rattle.printout.proofs.front.Tie as tie

@@ -1,7 +1,8 @@
 -- `printout::header` meets its contract.
 use lib.Dec.{lit≤}
-use Rattle.printout.specs.Text.{header-text, text-of}
-use Rattle.printout.proofs.Growth.{whole}
+use Rattle.line_text.specs.Text.{text-of}
+use Rattle.printout.specs.Text.{header-text}
+use Rattle.line_text.proofs.Growth.{whole}
 use borrow.Author.Needs.{needs}
 use Rattle.printout.proofs.header.Statement.{statement}
 use Rattle.printout.proofs.header.Tie as tie

@@ -4,8 +4,9 @@ use mathlib.Core.Path.{_≡_}
 use mathlib.Core.List.{List, [], _∷_, _++_, append-assoc}
 use native.Mathlib.Omega.{arith}
 use lib.Dec.{lit≤}
-use Rattle.printout.specs.Text.{space, newline, decimal, letter, word, line-text}
-use Rattle.printout.proofs.Growth.{then, renamed, whole}
+use Rattle.line_text.specs.Text.{space, newline, decimal}
+use Rattle.printout.specs.Text.{letter, word, line-text}
+use Rattle.line_text.proofs.Growth.{then, renamed, whole}
 use borrow.Author.Needs.{needs}
 use Rattle.printout.proofs.line.Statement.{statement}
 use Rattle.printout.proofs.line.Tie as tie

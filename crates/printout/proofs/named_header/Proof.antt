@@ -1,8 +1,8 @@
 -- `printout::named_header` meets its contract.
 use lib.Dec.{lit≤}
-use Rattle.printout.specs.Text.{text-of}
+use Rattle.line_text.specs.Text.{text-of}
 use Rattle.printout.specs.Named.{named-header-text}
-use Rattle.printout.proofs.Growth.{whole}
+use Rattle.line_text.proofs.Growth.{whole}
 use borrow.Author.Needs.{needs}
 use Rattle.printout.proofs.named_header.Statement.{statement}
 use Rattle.printout.proofs.named_header.Tie as tie

@@ -3,7 +3,7 @@ use Prim.Native.Nat.{ℕ, zero, suc}
 use mathlib.Core.Path.{_≡_, refl, sym, ap}
 use lib.Dec.{lit≤}
 use Rattle.printout.specs.Text.{word}
-use Rattle.printout.proofs.Growth.{renamed, wider}
+use Rattle.line_text.proofs.Growth.{renamed, wider}
 use borrow.Author.Needs.{needs}
 use Rattle.printout.proofs.put_verdict.Statement.{statement}
 use Rattle.printout.proofs.put_verdict.Tie as tie

@@ -2,7 +2,7 @@
 use mathlib.Core.List.{append-assoc}
 use lib.Dec.{lit≤}
 use Rattle.printout.specs.Text.{stop-text}
-use Rattle.printout.proofs.Growth.{then, renamed, whole}
+use Rattle.line_text.proofs.Growth.{then, renamed, whole}
 use borrow.Author.Needs.{needs}
 use Rattle.printout.proofs.stop.Statement.{statement}
 use Rattle.printout.proofs.stop.Tie as tie

@@ -1,9 +1,10 @@
 -- `show_why::found` is safe: its first line fits its room.
 use Prim.Native.Nat.{_≤_}
 use mathlib.Core.Path.{sym, subst}
-use Rattle.printout.specs.declared.Text.{Text}
-use Rattle.printout.specs.Text.{room}
-use Rattle.printout.proofs.Fits.{text-len, reached-fits}
+use Rattle.line_text.specs.declared.Text.{Text}
+use Rattle.line_text.specs.Text.{room}
+use Rattle.line_text.proofs.Held.{text-len}
+use Rattle.reason_text.proofs.Fits.{reached-fits}
 use borrow.Author.Needs.{needs}
 use Rattle.show_why.proofs.found.Statement.{statement}
 use Rattle.show_why.proofs.found.Tie as tie

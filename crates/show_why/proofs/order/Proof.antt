@@ -2,9 +2,10 @@
 use Prim.Native.Nat.{_-_, _≤_}
 use mathlib.Core.Path.{sym, subst}
 use native.Mathlib.Omega.{arith}
-use Rattle.printout.specs.declared.Text.{Text}
-use Rattle.printout.specs.Text.{room}
-use Rattle.printout.proofs.Fits.{text-len, placed-fits}
+use Rattle.line_text.specs.declared.Text.{Text}
+use Rattle.line_text.specs.Text.{room}
+use Rattle.line_text.proofs.Held.{text-len}
+use Rattle.reason_text.proofs.Fits.{placed-fits}
 use borrow.Author.Needs.{needs}
 use Rattle.show_why.proofs.order.Statement.{statement}
 use Rattle.show_why.proofs.order.Tie as tie

@@ -6,9 +6,10 @@ use native.Mathlib.Omega.{arith}
 use Rattle.session_record.specs.declared.Session.{Session}
 use Rattle.session_record.specs.Lent.{in-arrays}
 use Rattle.session_record.proofs.Range.{ranged}
-use Rattle.printout.specs.declared.Text.{Text}
-use Rattle.printout.specs.Text.{room}
-use Rattle.printout.proofs.Fits.{text-len, blind-fits}
+use Rattle.line_text.specs.declared.Text.{Text}
+use Rattle.line_text.specs.Text.{room}
+use Rattle.line_text.proofs.Held.{text-len}
+use Rattle.reason_text.proofs.Fits.{blind-fits}
 use borrow.Author.Needs.{needs}
 use Rattle.open_run.specs.Kept.{Lines, in-lines}
 use Rattle.open_run.proofs.Keeping.{keeps-fresh}

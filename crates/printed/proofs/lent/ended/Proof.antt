@@ -1,7 +1,7 @@
 -- `printed::lent::ended` meets its contract: the text is that of the end.
 use mathlib.Core.Path.{ap}
 use mathlib.Core.Bool.{false}
-use Rattle.printout.specs.declared.Text.{Text}
+use Rattle.line_text.specs.declared.Text.{Text}
 use borrow.Author.Needs.{needs}
 use Rattle.printed.proofs.lent.ended.Statement.{statement}
 use Rattle.printed.proofs.lent.ended.Tie as tie

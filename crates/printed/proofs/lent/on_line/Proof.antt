@@ -2,7 +2,8 @@
 use mathlib.Core.Path.{sym, _∙_}
 use mathlib.Core.Bool.{true}
 use Rattle.meaning.proofs.Refusals.{unless-taken, unless-kept}
-use Rattle.printout.specs.Text.{line-text, text-of}
+use Rattle.line_text.specs.Text.{text-of}
+use Rattle.printout.specs.Text.{line-text}
 use Rattle.printed.specs.Printed.{one-after}
 use borrow.Author.Needs.{needs}
 use Rattle.printed.proofs.lent.on_line.Statement.{statement}

@@ -1,7 +1,7 @@
 -- `printed::lent::stopped` meets its contract: the text is that of the stop.
 use mathlib.Core.Path.{ap}
 use mathlib.Core.Bool.{false}
-use Rattle.printout.specs.declared.Text.{Text}
+use Rattle.line_text.specs.declared.Text.{Text}
 use borrow.Author.Needs.{needs}
 use Rattle.printed.proofs.lent.stopped.Statement.{statement}
 use Rattle.printed.proofs.lent.stopped.Tie as tie

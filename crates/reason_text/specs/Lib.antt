@@ -1,0 +1,2 @@
+-- The definitions that a human must believe: the text of reasons.
+pub mod Reason
