@@ -4,7 +4,7 @@ use mathlib.Core.Path.{_≡_, refl}
 use mathlib.Core.Bool.{Bool, true, false}
 use Rattle.meaning.specs.Calls.{Call, mark-at}
 use Rattle.record_form.specs.Record
-use Rattle.record_form.specs.Trace.{Entry, kind-of, entry-call}
+use Rattle.trace_form.specs.Trace.{Entry, kind-of, entry-call}
 use Rattle.cuts.specs.Steps.{line-of}
 use Rattle.kept.specs.Event.{call-of}
 use Rattle.kept.specs.declared.Event.the-variants as Kept

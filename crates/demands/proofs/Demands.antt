@@ -26,8 +26,8 @@ use Rattle.property.specs.declared.Property as Data
 use Rattle.property_form.specs.Read.{property-read, read-refusal as property-read-refusal, taken as property-taken}
 use Rattle.property_form.specs.Read
 use Rattle.record_form.specs.Record.{Reader, Bytes, record-size, record-answer}
-use Rattle.record_form.specs.Trace.{trace-form}
-use Rattle.record_form.proofs.Reader.{Reads, record-reads}
+use Rattle.trace_form.specs.Trace.{trace-form}
+use Rattle.trace_form.proofs.Reader.{Reads, record-reads}
 use Rattle.tap_form.specs.Tap.{tap-size, tap-answer}
 use Rattle.tap_form.proofs.Reader.{tap-reads}
 use Rattle.cuts.specs.Steps.{fresh-by, refusal-by}
@@ -56,7 +56,7 @@ use Rattle.demands.proofs.Listing.{ShownBy, refused-shown, read-good, l
 use Rattle.demands.proofs.Forms.{fresh-number}
 -- "Packed properties and traces read back as written, and only one packing of each is taken." Numbers of a listing are decimal.
 pub use Rattle.property_form.proofs.RoundTrip.{write-then-read as property-reads-back, read-then-write as property-writes-back, one-packing as property-one-packing}
-pub use Rattle.record_form.proofs.Trace.{trace-reads-back, trace-writes-back, trace-one-packing}
+pub use Rattle.trace_form.proofs.Trace.{trace-reads-back, trace-writes-back, trace-one-packing}
 pub use Rattle.demands.proofs.Written.{written-trace}
 pub use Rattle.demands.proofs.Digits.{decimal-reads}
 pub use Rattle.demands.proofs.Forms.{begins-one-packing}

@@ -15,10 +15,10 @@ use Rattle.property.specs.declared.Property.{Property}
 use Rattle.property_form.specs.Read.{read}
 use Rattle.record_form.specs.Record.{record-size, record-answer}
 use Rattle.record_form.specs.Record
-use Rattle.record_form.specs.ReadAs.{ReadAs, read-as}
-use Rattle.record_form.specs.Trace.{Entry, kind-of, action-of, stamp-of, entry-call, TakenAs}
-use Rattle.record_form.proofs.Reader.{record-reads}
-use Rattle.record_form.proofs.ReadAs.{always-read, read-whole}
+use Rattle.trace_form.specs.ReadAs.{ReadAs, read-as}
+use Rattle.trace_form.specs.Trace.{Entry, kind-of, action-of, stamp-of, entry-call, TakenAs}
+use Rattle.trace_form.proofs.Reader.{record-reads}
+use Rattle.trace_form.proofs.ReadAs.{always-read, read-whole}
 use Rattle.session_record.specs.declared.Session.{Session}
 use Rattle.session_record.specs.Record.{latest-of}
 use Rattle.session_record.specs.Step.{stepped-of, stepped-through}

@@ -20,8 +20,8 @@ use Rattle.property_form.specs.Read
 use Rattle.property_form.proofs.Answers.{refusal-read, not-refused, property-of-read}
 use Rattle.property_form.proofs.RoundTrip.{form-read}
 use Rattle.record_form.specs.Record.{Bytes}
-use Rattle.record_form.specs.Trace.{Entry, trace-form, TakenAs}
-use Rattle.record_form.proofs.Trace.{trace-writes-back}
+use Rattle.trace_form.specs.Trace.{Entry, trace-form, TakenAs}
+use Rattle.trace_form.proofs.Trace.{trace-writes-back}
 use Rattle.session_record.specs.declared.Session.{Session}
 use Rattle.session_record.specs.Record.{latest-of, record-of}
 use Rattle.session_record.specs.Step.{standing, stepped-through}

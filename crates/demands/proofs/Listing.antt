@@ -17,9 +17,9 @@ use Rattle.property_form.specs.Read
 use Rattle.property_form.proofs.Answers.{refusal-read, property-of-read, not-refused}
 use Rattle.record_form.specs.Record.{Reader, RecordAnswer, record-size}
 use Rattle.record_form.specs.Record
-use Rattle.record_form.specs.ReadAs.{ReadAs, read-as}
-use Rattle.record_form.specs.Trace.{Entry, kind-of, action-of, stamp-of, entry-call}
-use Rattle.record_form.proofs.Reader.{Reads, reads-whole}
+use Rattle.trace_form.specs.ReadAs.{ReadAs, read-as}
+use Rattle.trace_form.specs.Trace.{Entry, kind-of, action-of, stamp-of, entry-call}
+use Rattle.trace_form.proofs.Reader.{Reads, reads-whole}
 use Rattle.session_record.specs.declared.Session.{Session}
 use Rattle.session_record.specs.Record.{latest-of, count-of, out-of-range}
 use Rattle.session_record.specs.Step.{standing, fresh-of, stepped-of, stepped-through}

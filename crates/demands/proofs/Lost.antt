@@ -14,12 +14,12 @@ use Rattle.meaning.specs.History.{stamp-of as call-stamp}
 use Rattle.fields.specs.Fields.{field}
 use Rattle.record_form.specs.Record.{RecordAnswer, record-size, record-answer, broken, stamp-above, fields-refusal, read-refusal, write-refusal}
 use Rattle.record_form.specs.Record
-use Rattle.record_form.specs.ReadAs.{read-as}
-use Rattle.record_form.specs.Trace.{Entry, kind-of, action-of, stamp-of, entry-call}
+use Rattle.trace_form.specs.ReadAs.{read-as}
+use Rattle.trace_form.specs.Trace.{Entry, kind-of, action-of, stamp-of, entry-call}
 use Rattle.record_form.proofs.Rules.{broken-none}
 use Rattle.record_form.proofs.Reading.{taken-answer, refusal-of as number-of}
-use Rattle.record_form.proofs.ReadAs.{entry-read}
-use Rattle.record_form.proofs.Reader.{reads-whole, record-reads}
+use Rattle.trace_form.proofs.ReadAs.{entry-read}
+use Rattle.trace_form.proofs.Reader.{reads-whole, record-reads}
 use Rattle.session_record.specs.declared.Session.{Session}
 use Rattle.session_record.specs.declared.Stepped.{Stepped}
 use Rattle.session_record.specs.Record.{latest-of, record-of, out-of-range}

@@ -10,11 +10,11 @@ use lib.ListN.{length, drop, length-drop}
 use Rattle.property.specs.declared.Property.{Property}
 use Rattle.property_form.specs.Read.{read}
 use Rattle.record_form.specs.Record.{Reader, RecordAnswer, record-size, record-answer}
-use Rattle.record_form.specs.ReadAs.{ReadAs, read-as}
-use Rattle.record_form.specs.Trace.{Entry, stamp-of, entry-call, trace-form, TakenBy}
-use Rattle.record_form.proofs.ReadAs.{entry-read, end-read}
-use Rattle.record_form.proofs.Reader.{Reads, reads-whole, record-reads}
-use Rattle.record_form.proofs.Trace.{trace-reads-back}
+use Rattle.trace_form.specs.ReadAs.{ReadAs, read-as}
+use Rattle.trace_form.specs.Trace.{Entry, stamp-of, entry-call, trace-form, TakenBy}
+use Rattle.trace_form.proofs.ReadAs.{entry-read, end-read}
+use Rattle.trace_form.proofs.Reader.{Reads, reads-whole, record-reads}
+use Rattle.trace_form.proofs.Trace.{trace-reads-back}
 use Rattle.tap_form.specs.Tap.{tap-size, tap-answer}
 use Rattle.tap_form.specs.Card.{card-form, CardCanSay}
 use Rattle.tap_form.proofs.Card.{card-reads-back, card-can-be-written}

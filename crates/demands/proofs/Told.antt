@@ -22,7 +22,7 @@ use Rattle.stays_told.proofs.Calls.{standing-stays, answers-stay, closed-not-ab
 use Rattle.property.specs.Meant.{meant}
 use Rattle.property.specs.declared.Property.{Property}
 use Rattle.record_form.specs.Record.{Reader}
-use Rattle.record_form.specs.Trace.{Entry, kind-of, action-of, stamp-of, entry-call}
+use Rattle.trace_form.specs.Trace.{Entry, kind-of, action-of, stamp-of, entry-call}
 use Rattle.session_record.specs.declared.Session.{Session}
 use Rattle.session_record.specs.Step.{standing, fresh-of, stepped-of, stepped-through}
 use Rattle.session_record.proofs.Steps.{step-refused, answer-refusal}

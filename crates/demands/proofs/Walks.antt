@@ -15,12 +15,12 @@ use Rattle.property.specs.Meant.{meant}
 use Rattle.property.specs.declared.Property.{Property}
 use Rattle.record_form.specs.Record.{Reader, ReadBy, RecordAnswer, record-size, record-answer, case-of}
 use Rattle.record_form.specs.Record
-use Rattle.record_form.specs.ReadAs.{ReadAs, read-as, case-as}
-use Rattle.record_form.specs.Trace.{Entry, kind-of, action-of, stamp-of, entry-call}
+use Rattle.trace_form.specs.ReadAs.{ReadAs, read-as, case-as}
+use Rattle.trace_form.specs.Trace.{Entry, kind-of, action-of, stamp-of, entry-call}
 use Rattle.record_form.specs.declared.RecordRead.{RecordRead}
 use Rattle.record_form.specs.declared.RecordRead.the-variants.{Input, Output, Gap, End as RecordEnd, Refused as RecordRefused}
-use Rattle.record_form.proofs.ReadAs.{read-case, refused-given, fields-read}
-use Rattle.record_form.proofs.Reader.{Reads, record-reads}
+use Rattle.trace_form.proofs.ReadAs.{read-case, refused-given, fields-read}
+use Rattle.trace_form.proofs.Reader.{Reads, record-reads}
 use Rattle.cuts.specs.Steps.{front-after, front-fresh, front-none, taken-by}
 use Rattle.session_record.specs.declared.Session.{Session}
 use Rattle.session_record.specs.declared.Stepped.{Stepped}

@@ -9,7 +9,7 @@ use lib.Seq.{take-at, drop-drop}
 use Rattle.meaning.proofs.Refusals.{unless-taken}
 use Rattle.record_form.specs.Record.{record-size, write-refusal, record-form, written}
 use Rattle.record_form.specs.Record
-use Rattle.record_form.specs.Trace.{Entry, kind-of, action-of, stamp-of, trace-form, CanBeWritten}
+use Rattle.trace_form.specs.Trace.{Entry, kind-of, action-of, stamp-of, trace-form, CanBeWritten}
 use Rattle.record_form.proofs.Writing.{length-record-form, is-writable}
 use Rattle.record_form.proofs.RoundTrip.{write-none, in-room}
 use Rattle.demands.specs.Traces.{written-through}

@@ -8,7 +8,7 @@ use Rattle.meaning.specs.Node.{Verdict, verdict-number}
 use Rattle.meaning.specs.Calls.{Call, fresh, watched, Standing, open-of}
 use Rattle.record_form.specs.Record.{Reader}
 use Rattle.record_form.specs.Record
-use Rattle.record_form.specs.Trace.{Entry, kind-of, action-of, stamp-of, entry-call}
+use Rattle.trace_form.specs.Trace.{Entry, kind-of, action-of, stamp-of, entry-call}
 use Rattle.session_record.specs.declared.Session.{Session}
 use Rattle.session_record.specs.Record.{latest-of}
 use Rattle.printout.specs.Text.{line-text, end-text, stop-text}

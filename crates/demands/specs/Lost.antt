@@ -3,7 +3,7 @@ use Prim.Native.Nat.{ℕ, _≤_}
 use mathlib.Core.List.{List, [], _∷_, Forall₂}
 use Rattle.meaning.specs.Words.{Line}
 use Rattle.meaning.specs.Calls.{Call, mark-at}
-use Rattle.record_form.specs.Trace.{Entry, entry-call}
+use Rattle.trace_form.specs.Trace.{Entry, entry-call}
 
 -- The last gap's number of lost lines after a record and after several; `before` where none of them is a gap.
 abbrev pub lost-by : (before : ℕ) → Entry → ℕ

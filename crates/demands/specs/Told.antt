@@ -4,7 +4,7 @@ use mathlib.Core.Path.{_≡_}
 use mathlib.Core.List.{List, [], _∷_, _++_, map}
 use Rattle.meaning.specs.Words.{Property}
 use Rattle.meaning.specs.Calls.{Call, fresh, watched, open-of}
-use Rattle.record_form.specs.Trace.{Entry, kind-of, action-of, stamp-of, entry-call}
+use Rattle.trace_form.specs.Trace.{Entry, kind-of, action-of, stamp-of, entry-call}
 use Rattle.session_record.specs.declared.Session.{Session}
 use Rattle.session_record.specs.Step.{stepped-of}
 use Rattle.printout.specs.Text.{line-text}

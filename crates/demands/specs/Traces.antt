@@ -10,8 +10,8 @@ use Rattle.meaning.specs.Numbers.{given, first-of}
 use Rattle.meaning.specs.Calls.{Call, Watch, refusal, taken}
 use Rattle.record_form.specs.Record.{Reader, record-size, record-answer, written}
 use Rattle.record_form.specs.Record
-use Rattle.record_form.specs.ReadAs.{ReadAs, read-as}
-use Rattle.record_form.specs.Trace.{Entry, kind-of, action-of, stamp-of, entry-call}
+use Rattle.trace_form.specs.ReadAs.{ReadAs, read-as}
+use Rattle.trace_form.specs.Trace.{Entry, kind-of, action-of, stamp-of, entry-call}
 use Rattle.session_record.specs.declared.Session.{Session}
 use Rattle.session_record.specs.Record.{latest-of}
 use Rattle.session_record.specs.Step.{stepped-of}

@@ -10,7 +10,7 @@ use lib.Dec.{lit<}
 use lib.Pow.{pow-mono}
 use lib.ListN.{length, getD, length-append, List·getD-append}
 use lib.Seq.{getD-append-add, getD-at, ext-getD}
-use Rattle.fields.specs.Fields.{digit, bit, number, bits, run, at, Bits}
+use Rattle.fields.specs.Fields.{digit, bit, number, bits, run, at, Bits, field}
 
 pub le-or-lt : (a b : ℕ) → (a ≤ b) ⊎ (b < a)
 le-or-lt zero b = inl zero-le
@@ -101,6 +101,12 @@ pub number-lt : (f : ℕ → ℕ) → Bits f → (i k : ℕ) → number f i k < 
 unfolding number
 number-lt f b i zero = lit< tt
 number-lt f b i (suc k) = omega (arith, number-lt f b i k, b (i + k), pow-suc 2 k)
+
+pub field-lt : (s : List ℕ) (i k : ℕ) → field s i k < 2 ^ k
+field-lt s i k = number-lt (bit s) (bit-lt s) i k
+
+pub is-field-lt : {n : ℕ} (s : List ℕ) (i k : ℕ) → n ≡ field s i k → n < 2 ^ k
+is-field-lt s i k e = subst (λ (m : ℕ). m < 2 ^ k) (sym e) (field-lt s i k)
 
 pub number-one-more : (f : ℕ → ℕ) (i k : ℕ) → 2 * number f i k + f (i + k) ≡ number f i (k + 1)
 unfolding number

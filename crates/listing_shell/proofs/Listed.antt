@@ -6,7 +6,7 @@ use native.Mathlib.Omega.{arith}
 use lib.ListN.{length, take, length-take}
 use Rattle.record_form.specs.declared.RecordRead.{RecordRead}
 use Rattle.record_form.specs.Record.{ReadBy}
-use Rattle.record_form.specs.ReadAs.{case-as}
+use Rattle.trace_form.specs.ReadAs.{case-as}
 use Rattle.session_record.specs.declared.Session.{Session}
 use Rattle.session_record.specs.Record.{latest-of}
 use Rattle.session_record.specs.Lent.{Ready}

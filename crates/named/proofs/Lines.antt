@@ -9,8 +9,8 @@ use lib.Seq.{take-append-seam, drop-append-seam}
 use Rattle.meaning.specs.Words.{Action}
 use Rattle.meaning.specs.Calls.{Call, mark-at}
 use Rattle.record_form.specs.Record.{record-answer, IsRead}
-use Rattle.record_form.proofs.ReadAs.{read-case}
-use Rattle.record_form.specs.ReadAs.{ReadAs, case-as, read-as}
+use Rattle.trace_form.proofs.ReadAs.{read-case}
+use Rattle.trace_form.specs.ReadAs.{ReadAs, case-as, read-as}
 use Rattle.record_form.specs.declared.RecordRead.{RecordRead}
 use Rattle.record_form.specs.declared.RecordRead.the-variants.{Input, Output, Gap, End, Refused}
 use Rattle.session_record.specs.declared.Session.{Session}

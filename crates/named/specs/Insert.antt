@@ -5,7 +5,7 @@ use mathlib.Core.Bool.{true, false}
 use mathlib.Core.List.{List, []}
 use Rattle.meaning.specs.Calls.{Call}
 use Rattle.record_form.specs.Record.{input, output, gap, record-answer}
-use Rattle.record_form.specs.ReadAs.{ReadAs, read-as}
+use Rattle.trace_form.specs.ReadAs.{ReadAs, read-as}
 use Rattle.record_form.specs.declared.RecordRead.{RecordRead}
 use Rattle.record_form.specs.declared.RecordRead.the-variants.{Input, Output, Gap, End, Refused}
 use Rattle.session_record.specs.declared.Session.{Session}

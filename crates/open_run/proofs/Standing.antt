@@ -21,8 +21,8 @@ use Rattle.property.specs.Meant.{meant}
 use Rattle.property.specs.declared.Property.{Property}
 use Rattle.record_form.specs.declared.RecordRead.{RecordRead}
 use Rattle.record_form.specs.Record.{record-size, record-answer, IsRead}
-use Rattle.record_form.specs.ReadAs.{ReadAs, case-as, read-as}
-use Rattle.record_form.proofs.ReadAs.{read-case}
+use Rattle.trace_form.specs.ReadAs.{ReadAs, case-as, read-as}
+use Rattle.trace_form.proofs.ReadAs.{read-case}
 use Rattle.cuts.specs.Steps.{refusal-by}
 use Rattle.session_record.specs.declared.Session.{Session}
 use Rattle.session_record.specs.declared.Answer.{Answer}

@@ -10,7 +10,7 @@ use Rattle.meaning.specs.Calls.{Call, Watch, fresh, watched}
 use Rattle.property.specs.Meant.{meant}
 use Rattle.property.specs.declared.Property.{Property}
 use Rattle.record_form.specs.Record.{record-size, record-answer}
-use Rattle.record_form.specs.ReadAs.{ReadAs, read-as}
+use Rattle.trace_form.specs.ReadAs.{ReadAs, read-as}
 use Rattle.cuts.specs.Steps.{line-of}
 use Rattle.session_record.specs.declared.Session.{Session}
 use Rattle.session_record.specs.Record.{latest-of}

@@ -4,7 +4,7 @@ ghost use mathlib.Core.Bool.{Bool};
 ghost use mathlib.Core.List.{List, [], _∷_, _++_};
 ghost use Rattle.meaning.specs.Words.{Run};
 ghost use Rattle.meaning.specs.Calls.{Call, mark-at};
-ghost use Rattle.record_form.specs.ReadAs.{ReadAs, case-as};
+ghost use Rattle.trace_form.specs.ReadAs.{ReadAs, case-as};
 ghost use Rattle.table.specs.Table.{IsTable};
 ghost use Rattle.cuts.specs.Steps.{line-of};
 ghost use Rattle.session_record.specs.Lent.{in-arrays, Ready};

@@ -9,7 +9,7 @@ use Rattle.session_record.specs.declared.Session.{Session}
 use Rattle.session_record.specs.Record.{latest-of, out-of-range}
 use Rattle.property_form.specs.Read.{read}
 use Rattle.record_form.specs.Record.{Reader}
-use Rattle.record_form.specs.ReadAs.{read-as}
+use Rattle.trace_form.specs.ReadAs.{read-as}
 use Rattle.walk.specs.Walk.{One, one-read}
 use Rattle.line_text.specs.Text.{room}
 use Rattle.printout.specs.Text.{stop-text}

@@ -6,9 +6,9 @@ use mathlib.Core.List.{List, []}
 use Rattle.meaning.specs.Calls.{Call, mark-at, unless-refused}
 use Rattle.property.specs.Meant.{action-of}
 use Rattle.record_form.specs.Record.{Reader, ReadBy, gap}
-use Rattle.record_form.specs.ReadAs.{ReadAs, read-as, case-as}
+use Rattle.trace_form.specs.ReadAs.{ReadAs, read-as, case-as}
 use Rattle.record_form.specs.declared.RecordRead.{RecordRead}
-use Rattle.record_form.proofs.ReadAs.{read-case}
+use Rattle.trace_form.proofs.ReadAs.{read-case}
 use Rattle.held.specs.declared.Status.{Status}
 use Rattle.cuts.specs.Arrays.{number-of}
 use Rattle.cuts.specs.Steps.{line-of}

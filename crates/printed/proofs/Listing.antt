@@ -6,8 +6,8 @@ use mathlib.Core.List.{List, [], _++_, append-nil}
 use lib.ListN.{take, drop}
 use Rattle.meaning.specs.Calls.{Call}
 use Rattle.record_form.specs.Record.{Reader, RecordAnswer}
-use Rattle.record_form.specs.ReadAs.{ReadAs, read-as}
-use Rattle.record_form.proofs.Reader.{Reads}
+use Rattle.trace_form.specs.ReadAs.{ReadAs, read-as}
+use Rattle.trace_form.proofs.Reader.{Reads}
 use Rattle.session_record.specs.declared.Session.{Session}
 use Rattle.session_record.specs.Record.{latest-of, out-of-range}
 use Rattle.session_record.specs.Step.{stepped-of}

@@ -6,7 +6,7 @@ use mathlib.Core.List.{List}
 use native.Mathlib.Omega.{arith}
 use Rattle.meaning.specs.Calls.{Call}
 use Rattle.record_form.specs.Record.{record-answer}
-use Rattle.record_form.specs.ReadAs.{ReadAs, read-as}
+use Rattle.trace_form.specs.ReadAs.{ReadAs, read-as}
 use Rattle.session_record.specs.declared.Session.{Session}
 use Rattle.session_record.specs.declared.Stepped.{Stepped}
 use Rattle.session_record.specs.Record.{latest-of, out-of-range}

@@ -10,9 +10,9 @@ use lib.ListN.{length, take, drop, length-take, length-drop}
 use Rattle.meaning.specs.Calls.{Call}
 use Rattle.property_form.specs.Read.{read}
 use Rattle.record_form.specs.Record.{Reader, refused}
-use Rattle.record_form.specs.ReadAs.{ReadAs, read-as}
-use Rattle.record_form.proofs.ReadAs.{refused-read}
-use Rattle.record_form.proofs.Reader.{Reads, by-size}
+use Rattle.trace_form.specs.ReadAs.{ReadAs, read-as}
+use Rattle.trace_form.proofs.ReadAs.{refused-read}
+use Rattle.trace_form.proofs.Reader.{Reads, by-size}
 use Rattle.session_record.specs.declared.Session.{Session}
 use Rattle.session_record.specs.Record.{latest-of, out-of-range}
 use Rattle.session_record.specs.Step.{fresh-of}

@@ -4,7 +4,7 @@ use mathlib.Core.Path.{_≡_}
 use mathlib.Core.Bool.{true, false}
 use mathlib.Core.List.{List}
 use Rattle.meaning.specs.Calls.{unless-refused}
-use Rattle.record_form.specs.ReadAs.{ReadAs}
+use Rattle.trace_form.specs.ReadAs.{ReadAs}
 use Rattle.held.specs.declared.Status.{Status}
 use Rattle.session_record.specs.declared.Session.{Session}
 use Rattle.session_record.specs.declared.Told.{Told}

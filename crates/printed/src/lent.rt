@@ -3,7 +3,7 @@ ghost use mathlib.Core.Path.{_≡_};
 ghost use mathlib.Core.Bool.{cond};
 ghost use Rattle.table.specs.Table.{IsTable};
 ghost use Rattle.record_form.specs.Record.{gap};
-ghost use Rattle.record_form.specs.ReadAs.{case-as};
+ghost use Rattle.trace_form.specs.ReadAs.{case-as};
 ghost use Rattle.session_record.specs.Lent.{in-arrays, Ready};
 ghost use Rattle.printout.specs.Text.{line-text, end-text, stop-text};
 ghost use Rattle.printed.specs.Printed.{one-after};

@@ -11,18 +11,11 @@ use Rattle.laws.proofs.Tests.{or-split}
 use Rattle.meaning.specs.Numbers.{given, first-of}
 use Rattle.meaning.proofs.Refusals.{given-none, none-first, unless-taken, unless-kept}
 use Rattle.fields.specs.Fields.{field, bit}
-use Rattle.fields.proofs.Laws.{number-lt, bit-lt}
+use Rattle.fields.proofs.Laws.{field-lt}
 use Rattle.record_form.specs.declared.RecordRead.{RecordRead}
 use Rattle.record_form.specs.declared.RecordRead.the-variants.{Refused}
 use Rattle.record_form.specs.Record.{Reader, ReadBy, RecordAnswer, numbers, case-of, case-by, taken, refused, answered, broken, stamp-above, fields-refusal, read-refusal, record-answer, IsRead, bytes-read}
 use Rattle.record_form.proofs.Rules.{broken-end, broken-kind}
-
--- ---- fields
-pub field-lt : (s : List ℕ) (i k : ℕ) → field s i k < 2 ^ k
-field-lt s i k = number-lt (bit s) (bit-lt s) i k
-
-pub is-field-lt : {n : ℕ} (s : List ℕ) (i k : ℕ) → n ≡ field s i k → n < 2 ^ k
-is-field-lt s i k e = subst (λ (m : ℕ). m < 2 ^ k) (sym e) (field-lt s i k)
 
 -- the answer to fields
 abbrev pub fields-numbers : ℕ → ℕ → ℕ → ℕ → RecordAnswer

@@ -15,7 +15,8 @@ use Rattle.record_form.specs.declared.RecordRead.{RecordRead}
 use Rattle.fields.specs.Rest.{Rest}
 use Rattle.record_form.specs.Record.{RecordAnswer, taken, fields-refusal, read-refusal, record-answer, numbers, IsRead, bytes-read, write-refusal, Bytes, record-form, written, IsWritten}
 use Rattle.record_form.proofs.Rules.{within}
-use Rattle.record_form.proofs.Reading.{Readable, unbroken, is-taken, taken-answer, refusal-of, field-lt, size-taken}
+use Rattle.record_form.proofs.Reading.{Readable, unbroken, is-taken, taken-answer, refusal-of, size-taken}
+use Rattle.fields.proofs.Laws.{field-lt}
 use Rattle.record_form.proofs.Parts.{form-kind, form-action, form-third, three-form}
 use Rattle.record_form.proofs.Writing.{length-record-form, Writable, is-writable, written-form}
 

@@ -1,4 +1,2 @@
--- The definitions that a human must believe: the record, lists of records, and what a record stands for on a session.
+-- The definitions that a human must believe: the record.
 pub mod Record
-pub mod Trace
-pub mod ReadAs

@@ -4,7 +4,6 @@ ghost use mathlib.Core.List.{_++_};
 ghost use Prim.Native.Nat.{_+_, _≤_, _<_};
 ghost use lib.ListN.{length, drop};
 ghost use lib.Dec.{eqb};
-ghost use Rattle.fields.specs.Fields.{field};
 ghost use Rattle.fields.specs.Rest.{Rest};
 ghost use Rattle.record_form.specs.Record.{record-size, numbers, case-of, taken, answered, broken, stamp-above, fields-refusal, IsRead, bytes-read, write-refusal, record-form, IsWritten};
 use limits::LAST_ACTION;
@@ -24,35 +23,6 @@ pub enum RecordRead {
     End(u64),
     // The number.
     Refused(u64),
-}
-
-// The two bits of kind.
-pub fn kind_field(s: &[u8]) -> u64
-    requires { ⌜ 1 ≤ length (now s) ⌝ }
-    ensures { λ r. ⌜ r ≡ field (now (s .entry)) 0 2 ⌝ }
-{
-    fields::field_at(s, 0, 2)
-}
-
-// The 6 bits of action; of a gap, its number of lost lines.
-pub fn action_field(s: &[u8]) -> u8
-    requires { ⌜ 1 ≤ length (now s) ⌝ }
-    ensures { λ r. ⌜ r ≡ field (now (s .entry)) 2 6 ⌝ }
-{
-    fields::field_at(s, 2, 6) as u8
-}
-
-// The 40 bits of stamp, which is less the stamp before.
-fn stamp_field(s: &[u8]) -> u64
-    requires { ⌜ record-size ≤ length (now s) ⌝ }
-    ensures { λ r. ⌜ r ≡ field (now (s .entry)) 8 40 ⌝ }
-{
-    // The last byte first: in this order the compiler loads four of them at once.
-    (s[5] as u64)
-        + ((s[4] as u64) << 8)
-        + ((s[3] as u64) << 16)
-        + ((s[2] as u64) << 24)
-        + ((s[1] as u64) << 32)
 }
 
 // The stamp before, or the sum of it and the field, is past the limit.
@@ -112,7 +82,12 @@ pub fn read_record(s: &[u8], before: u64) -> RecordRead
     if s.len() < RECORD_SIZE {
         return RecordRead::Refused(7);
     }
-    record_of(kind_field(s), action_field(s), stamp_field(s), before)
+    record_of(
+        record_fields::kind_field(s),
+        record_fields::action_field(s),
+        record_fields::stamp_field(s),
+        before,
+    )
 }
 
 // The reader took a record.

@@ -14,8 +14,8 @@ use Rattle.property_form.specs.declared.PropertyRead.{PropertyRead}
 use Rattle.property_form.specs.Read.{read}
 use Rattle.record_form.specs.declared.RecordRead.{RecordRead}
 use Rattle.record_form.specs.Record.{record-size, record-answer, IsRead}
-use Rattle.record_form.specs.ReadAs.{ReadAs, case-as, read-as}
-use Rattle.record_form.proofs.ReadAs.{read-case}
+use Rattle.trace_form.specs.ReadAs.{ReadAs, case-as, read-as}
+use Rattle.trace_form.proofs.ReadAs.{read-case}
 use Rattle.session_record.specs.declared.Session.{Session}
 use Rattle.session_record.specs.declared.Stepped.{Stepped}
 use Rattle.session_record.specs.Record.{latest-of, blind-of, out-of-range}

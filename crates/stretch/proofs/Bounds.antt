@@ -19,9 +19,9 @@ use Rattle.fields.specs.Fields.{field}
 use Rattle.property_form.proofs.Answers.{refusal-read}
 use Rattle.record_form.specs.Record.{RecordAnswer, record-answer, record-size, broken, stamp-above, fields-refusal}
 use Rattle.record_form.specs.Record
-use Rattle.record_form.specs.ReadAs.{ReadAs, read-as}
+use Rattle.trace_form.specs.ReadAs.{ReadAs, read-as}
 use Rattle.record_form.proofs.Reading.{refusal-of as read-number}
-use Rattle.record_form.proofs.ReadAs.{refused-given}
+use Rattle.trace_form.proofs.ReadAs.{refused-given}
 use Rattle.cuts.specs.Steps.{fresh-by, verdict-by, refusal-by, taken-by}
 use Rattle.session_record.specs.declared.Session.{Session}
 use Rattle.session_record.specs.Record.{latest-of, blind-of, cuts-of, record-of, out-of-range}

@@ -12,12 +12,13 @@ use borrow.Author.Tests.{eq-eqb, eqb-true, not-false}
 use Rattle.meaning.specs.Limits.{last-stamp, last-action}
 use Rattle.fields.specs.Fields.{field}
 use Rattle.record_form.specs.Record.{Bytes, RecordAnswer, end, taken, answered, broken, stamp-above}
-use Rattle.record_form.specs.Trace.{Entry, kind-of, action-of, stamp-of, CanBeWritten}
+use Rattle.trace_form.specs.Trace.{Entry, kind-of, action-of, stamp-of, CanBeWritten}
 use Rattle.record_form.proofs.Rules.{none-past, within, broken-none, broken-end}
 use Rattle.record_form.proofs.Parts.{three-form, length-form-three, form-kind, form-action, form-third}
-use Rattle.record_form.proofs.Reading.{field-lt, unbroken}
+use Rattle.fields.proofs.Laws.{field-lt}
+use Rattle.record_form.proofs.Reading.{unbroken}
 use Rattle.record_form.proofs.RoundTrip.{write-none}
-use Rattle.record_form.proofs.Trace.{Bytes-drop}
+use Rattle.trace_form.proofs.Trace.{Bytes-drop}
 use Rattle.tap_form.specs.Tap.{counter-at, since, tap-stamp, tap-broken, tap-action, tap-fields-refusal, tap-answer, tap-form}
 use Rattle.tap_form.specs.Card.{card-action, CardNumber, card-form, CardCanSay, TapTakenAs}
 use Rattle.tap_form.proofs.Wrapped.{counter-lt, since-back, since-lt, since-true}

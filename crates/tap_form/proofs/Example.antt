@@ -4,7 +4,7 @@ use mathlib.Core.Path.{_≡_, refl, subst}
 use mathlib.Core.List.{List, [], _∷_}
 use lib.Dec.{lit≤}
 use Rattle.fields.specs.Fields.{digit, number, bits, packed, form}
-use Rattle.record_form.specs.Trace.{Entry}
+use Rattle.trace_form.specs.Trace.{Entry}
 use Rattle.tap_form.specs.Tap.{tap-form}
 use Rattle.tap_form.specs.Card.{card-form, CardCanSay, TapTakenAs}
 use Rattle.tap_form.proofs.Card.{card-reads-back}

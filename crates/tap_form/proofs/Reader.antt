@@ -6,7 +6,7 @@ use lib.Dec.{lit≤}
 use lib.ListN.{take}
 use Rattle.meaning.specs.Numbers.{given, first-of}
 use Rattle.record_form.specs.Record.{answered, taken}
-use Rattle.record_form.proofs.Reader.{Reads, front-same}
+use Rattle.trace_form.proofs.Reader.{Reads, front-same}
 use Rattle.tap_form.specs.Tap.{tap-size, tap-stamp, tap-action, tap-fields-refusal, tap-refusal, tap-answer}
 use Rattle.tap_form.proofs.Reading.{tap-short, tap-always-read, tap-end}
 

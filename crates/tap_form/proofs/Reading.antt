@@ -17,8 +17,9 @@ use Rattle.record_form.specs.Record.{RecordAnswer, end, numbers, case-of, case-
 use Rattle.record_form.specs.declared.RecordRead.{RecordRead}
 use Rattle.record_form.specs.declared.RecordRead.the-variants.{Refused}
 use Rattle.record_form.proofs.Rules.{broken-none, broken-end, is-0, not-0}
-use Rattle.record_form.proofs.Reading.{short-by, long-by, none-of-three, case-read, as-case, field-lt, fields-numbers, fields-same-numbers, answered-number}
-use Rattle.record_form.proofs.Reader.{by-size}
+use Rattle.record_form.proofs.Reading.{short-by, long-by, none-of-three, case-read, as-case, fields-numbers, fields-same-numbers, answered-number}
+use Rattle.fields.proofs.Laws.{field-lt}
+use Rattle.trace_form.proofs.Reader.{by-size}
 use Rattle.tap_form.specs.Tap.{tap-size, since, tap-stamp, tap-broken, tap-action, tap-fields-refusal, tap-refusal, tap-answer, IsTapRead, tap-bytes-read}
 
 -- the answer to fields

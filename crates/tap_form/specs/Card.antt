@@ -4,7 +4,7 @@ use mathlib.Core.List.{List, [], _∷_, _++_}
 use mathlib.Core.Path.{_≡_}
 use Rattle.meaning.specs.Limits.{last-action, most-lost, last-stamp}
 use Rattle.record_form.specs.Record
-use Rattle.record_form.specs.Trace.{Entry, kind-of, stamp-of, TakenBy}
+use Rattle.trace_form.specs.Trace.{Entry, kind-of, stamp-of, TakenBy}
 use Rattle.tap_form.specs.Tap.{tap-size, counter-at, tap-answer, tap-form}
 
 -- CR 7: "The tap card's gaps keep action 0 and count as 63": what the card has in the 6 bits of action, and which numbers it can say.

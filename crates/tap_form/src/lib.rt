@@ -60,8 +60,8 @@ pub fn read_tap(s: &[u8], before: u64) -> RecordRead
         return RecordRead::Refused(7);
     }
     tap_of(
-        record_form::kind_field(s),
-        record_form::action_field(s),
+        record_fields::kind_field(s),
+        record_fields::action_field(s),
         counter_field(s),
         before,
     )

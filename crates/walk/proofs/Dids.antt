@@ -8,10 +8,10 @@ use lib.ListN.{length}
 use lib.Dec.{eqb}
 use Rattle.meaning.specs.Calls.{Call}
 use Rattle.record_form.specs.Record.{RecordAnswer, record-size, record-answer, gap, numbers, IsRead}
-use Rattle.record_form.specs.ReadAs.{ReadAs, case-as}
+use Rattle.trace_form.specs.ReadAs.{ReadAs, case-as}
 use Rattle.record_form.specs.declared.RecordRead.{RecordRead}
 use Rattle.record_form.specs.declared.RecordRead.the-variants.{End as RecordEnd, Refused as RecordRefused}
-use Rattle.record_form.proofs.ReadAs.{read-known, read-whole, fields-read}
+use Rattle.trace_form.proofs.ReadAs.{read-known, read-whole, fields-read}
 use Rattle.session_record.specs.declared.Session.{Session}
 use Rattle.session_record.specs.declared.Answer.{Answer}
 use Rattle.session_record.specs.declared.Stepped.{Stepped}

@@ -10,8 +10,8 @@ use lib.Seq.{drop-drop}
 use borrow.Author.Tests.{le-ltb}
 use Rattle.meaning.specs.Calls.{Call}
 use Rattle.record_form.specs.Record.{record-size, record-answer}
-use Rattle.record_form.specs.ReadAs.{ReadAs, read-as}
-use Rattle.record_form.proofs.ReadAs.{short-read}
+use Rattle.trace_form.specs.ReadAs.{ReadAs, read-as}
+use Rattle.trace_form.proofs.ReadAs.{short-read}
 use Rattle.session_record.specs.declared.Session.{Session}
 use Rattle.session_record.specs.Record.{latest-of, out-of-range}
 use Rattle.session_record.specs.Step.{stepped-of, stepped-through}

@@ -7,7 +7,7 @@ use native.Mathlib.Omega.{arith}
 use lib.ListN.{drop}
 use Rattle.meaning.specs.Calls.{Call}
 use Rattle.record_form.specs.Record.{record-size, record-answer}
-use Rattle.record_form.specs.ReadAs.{ReadAs, read-as}
+use Rattle.trace_form.specs.ReadAs.{ReadAs, read-as}
 use Rattle.session_record.specs.declared.Session.{Session}
 use Rattle.session_record.specs.declared.Stepped.{Stepped}
 use Rattle.session_record.specs.Record.{latest-of, out-of-range}

@@ -7,7 +7,7 @@ use lib.Dec.{ltb, eqb}
 use Rattle.meaning.specs.Calls.{Call}
 use Rattle.fields.specs.Fields.{field}
 use Rattle.record_form.specs.Record.{record-answer, record-size, gap}
-use Rattle.record_form.specs.ReadAs.{ReadAs, read-as}
+use Rattle.trace_form.specs.ReadAs.{ReadAs, read-as}
 use Rattle.session_record.specs.declared.Session.{Session}
 use Rattle.session_record.specs.Record.{latest-of, out-of-range}
 use Rattle.session_record.specs.Step.{stepped-of}

@@ -5,8 +5,8 @@ use mathlib.Core.Bool.{true, false}
 use mathlib.Core.List.{List}
 use denote.Ref.{now}
 use Rattle.record_form.specs.Record.{record-answer}
-use Rattle.record_form.specs.ReadAs.{ReadAs, case-as, read-as}
-use Rattle.record_form.proofs.ReadAs.{read-case}
+use Rattle.trace_form.specs.ReadAs.{ReadAs, case-as, read-as}
+use Rattle.trace_form.proofs.ReadAs.{read-case}
 use Rattle.session_record.specs.declared.Session.{Session}
 use Rattle.session_record.specs.Record.{latest-of, out-of-range}
 use Rattle.session_record.specs.Lent.{in-arrays, tidied, Ready}

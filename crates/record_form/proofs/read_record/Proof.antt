@@ -2,7 +2,8 @@
 use borrow.Author.Needs.{needs}
 use native.Mathlib.Omega.{arith}
 use denote.Ref.{now}
-use Rattle.record_form.proofs.Reading.{is-field-lt, read-fields, read-short}
+use Rattle.fields.proofs.Laws.{is-field-lt}
+use Rattle.record_form.proofs.Reading.{read-fields, read-short}
 use Rattle.record_form.proofs.read_record.Statement.{statement}
 use Rattle.record_form.proofs.read_record.Tie as tie
 

@@ -1,7 +1,7 @@
 -- `tap_form::counter_field` meets its contract: 32 bits fit.
 use borrow.Author.Needs.{needs}
 use native.Mathlib.Omega.{arith}
-use Rattle.record_form.proofs.Reading.{is-field-lt}
+use Rattle.fields.proofs.Laws.{is-field-lt}
 use Rattle.tap_form.proofs.counter_field.Statement.{statement}
 use Rattle.tap_form.proofs.counter_field.Tie as tie
 

@@ -2,7 +2,7 @@
 use borrow.Author.Needs.{needs}
 use native.Mathlib.Omega.{arith}
 use denote.Ref.{now}
-use Rattle.record_form.proofs.Reading.{is-field-lt}
+use Rattle.fields.proofs.Laws.{is-field-lt}
 use Rattle.tap_form.proofs.Reading.{tap-read-fields, tap-read-short}
 use Rattle.tap_form.proofs.read_tap.Statement.{statement}
 use Rattle.tap_form.proofs.read_tap.Tie as tie

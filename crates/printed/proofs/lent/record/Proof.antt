@@ -2,7 +2,7 @@
 use mathlib.Core.Path.{refl, ap}
 use mathlib.Core.Bool.{true, false}
 use denote.Ref.{now}
-use Rattle.record_form.specs.ReadAs.{case-as}
+use Rattle.trace_form.specs.ReadAs.{case-as}
 use Rattle.held.specs.declared.Status.{Status}
 use Rattle.session_record.specs.declared.Session.{Session}
 use Rattle.session_record.specs.Lent.{in-arrays}

@@ -3,9 +3,9 @@ use Prim.Native.Nat.{ℕ}
 use mathlib.Core.Path.{_≡_, refl, subst}
 use mathlib.Core.List.{List, [], _∷_}
 use Rattle.fields.specs.Fields.{digit, number, bits, packed, form}
 use Rattle.record_form.specs.Record.{write-refusal, broken, stamp-above, record-form}
-use Rattle.record_form.specs.Trace.{Entry, trace-form, CanBeWritten, TakenAs}
-use Rattle.record_form.proofs.Trace.{trace-reads-back}
+use Rattle.trace_form.specs.Trace.{Entry, trace-form, CanBeWritten, TakenAs}
+use Rattle.trace_form.proofs.Trace.{trace-reads-back}
 
 abbrev case-15 : List Entry
 case-15 = Entry.input 0 100 ∷ Entry.output 2 120 ∷ Entry.output 2 161 ∷ []

@@ -1,10 +1,10 @@
 -- What a record stands for on a session, by its kind: "0 input, 1 output, 2 gap, 3 end".
 use Prim.Native.Nat.{ℕ}
 use Rattle.meaning.specs.Calls.{Call}
 use Rattle.record_form.specs.declared.RecordRead.{RecordRead}
 use Rattle.record_form.specs.declared.RecordRead.the-variants.{Input, Output, Gap, End, Refused}
 use Rattle.record_form.specs.Record.{RecordAnswer, case-of}
-use Rattle.record_form.specs.Trace.{Entry, entry-call}
+use Rattle.trace_form.specs.Trace.{Entry, entry-call}
 
 -- A call, the end of the trace, or the number of a refusal.
 pub data ReadAs : Type 0 where

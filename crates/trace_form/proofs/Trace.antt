@@ -8,11 +8,11 @@ use native.Mathlib.Nat.{sub-self}
 use lib.ListN.{drop, take-append-drop}
 use lib.Dec.{lit≤}
 use lib.Seq.{drop-at, getD-drop}
 use Rattle.record_form.specs.Record
 use Rattle.record_form.specs.Record.{Reader, RecordAnswer, taken, record-answer, Bytes, record-form}
-use Rattle.record_form.specs.Trace.{Entry, kind-of, action-of, stamp-of, trace-form, CanBeWritten, TakenBy, TakenAs}
+use Rattle.trace_form.specs.Trace.{Entry, kind-of, action-of, stamp-of, trace-form, CanBeWritten, TakenBy, TakenAs}
 use Rattle.record_form.proofs.Writing.{length-record-form, is-writable}
 use Rattle.record_form.proofs.RoundTrip.{form-is-read, read-is-writable, read-is-form, write-none, in-room}
 
 pub Bytes-drop : (n : ℕ) (s : List ℕ) → Bytes s → Bytes (drop n s)
 Bytes-drop n s b i = subst (λ (x : ℕ). x < 256) (sym (getD-drop n s i 0)) (b (n + i))

@@ -11,10 +11,10 @@ use borrow.Author.Tests.{le-ltb}
 use Rattle.meaning.specs.Numbers.{given, first-of}
 use Rattle.fields.specs.Fields.{field}
 use Rattle.fields.proofs.Packed.{field-append}
 use Rattle.record_form.specs.Record
 use Rattle.record_form.specs.Record.{Reader, RecordAnswer, record-size, record-answer, read-refusal, fields-refusal, case-of, numbers, answered, taken, refused}
 use Rattle.record_form.proofs.Reading.{short}
-use Rattle.record_form.proofs.ReadAs.{always-read, end-stamp}
+use Rattle.trace_form.proofs.ReadAs.{always-read, end-stamp}
 
 pub record Reads (size : ℕ) (reader : Reader) : Type 0 where
   pub some : 1 ≤ size

@@ -4,8 +4,8 @@ use borrow.Author.Needs.{needs, fits-under}
 use native.Mathlib.Omega.{arith}
 use denote.Ref.{now}
 use Rattle.fields.proofs.Packed.{field-byte, field-byte-first}
-use Rattle.record_form.proofs.stamp_field.Statement.{statement}
-use Rattle.record_form.proofs.stamp_field.Tie as tie
+use Rattle.record_fields.proofs.stamp_field.Statement.{statement}
+use Rattle.record_fields.proofs.stamp_field.Tie as tie
 
 shared-slice-read-result : tie.Need-shared-slice-read-result
 shared-slice-read-result c = search needs

@@ -8,12 +8,12 @@ use lib.ListN.{length}
 use lib.Dec.{ltb}
 use borrow.Author.Tests.{ltb-true, ltb-false, eqb-true, not-false}
 use Rattle.fields.specs.Fields.{field}
 use Rattle.record_form.specs.declared.RecordRead.{RecordRead}
 use Rattle.record_form.specs.Record
 use Rattle.record_form.specs.Record.{Reader, ReadBy, IsRead, RecordAnswer, case-by, case-of, numbers, read-refusal, record-answer, record-size, refused, taken}
-use Rattle.record_form.specs.Trace.{Entry, entry-call, kind-of, action-of, stamp-of}
-use Rattle.record_form.specs.ReadAs.{ReadAs, case-as, read-as}
+use Rattle.trace_form.specs.Trace.{Entry, entry-call, kind-of, action-of, stamp-of}
+use Rattle.trace_form.specs.ReadAs.{ReadAs, case-as, read-as}
 use Rattle.record_form.proofs.Reading.{as-case, is-taken, read-fields, read-short, refusal-of, short, taken-answer, unbroken}
 
 -- What a reader answered is what the record stands for; with the answer's case put in, each by `refl`.
 pub read-case : {reader : Reader} {s : List ℕ} {before : ℕ} {r : RecordRead} → ReadBy reader s before r → read-as (reader s before) ≡ case-as r

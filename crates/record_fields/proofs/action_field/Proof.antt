@@ -1,9 +1,9 @@
 -- `record_form::action_field` meets its contract: six bits fit a byte.
 use borrow.Author.Needs.{needs}
 use native.Mathlib.Omega.{arith}
-use Rattle.record_form.proofs.Reading.{is-field-lt}
-use Rattle.record_form.proofs.action_field.Statement.{statement}
-use Rattle.record_form.proofs.action_field.Tie as tie
+use Rattle.fields.proofs.Laws.{is-field-lt}
+use Rattle.record_fields.proofs.action_field.Statement.{statement}
+use Rattle.record_fields.proofs.action_field.Tie as tie
 
 field-at-requires : tie.Need-field-at-requires
 field-at-requires c κs = search needs
