@@ -10,7 +10,8 @@ use Rattle.laws.specs.Filled.{Filled}
 use Rattle.property.specs.declared.Property.{Property}
 use Rattle.judged_rest.specs.Lent.{Lines, lent, is-output, stamp-at, count}
 use Rattle.first_order.specs.Search.{Pair, pair}
-use Rattle.first_order.specs.Search.{place, number-at, Found, low-at, late, moment-of, moment-at, Written}
+use Rattle.first_order.specs.Search.{place, number-at, Found, Written}
+use Rattle.order_moments.specs.Moments.{low-at, late, moment-of, moment-at}
 
 -- only the places before j count
 pub late-same : (p : Property) (ls ls′ : Lines) (at at′ : ℕ → ℕ) (j : ℕ) → ((i : ℕ) → i < j → low-at p ls (at i) ≡ low-at p ls′ (at′ i))

@@ -1,13 +1,13 @@
 -- How the first order with a wanted end is found: words for the contracts, which theorems tie to the definitions of `reasons`.
-use Prim.Native.Nat.{ℕ, zero, suc, _+_, _*_, _-_, _≤_, _<_, max}
+use Prim.Native.Nat.{ℕ, zero, suc, _+_, _*_, _-_, _≤_, _<_}
 use mathlib.Core.Path.{_≡_}
 use mathlib.Core.Bool.{Bool, true, false, cond, not}
 use mathlib.Core.List.{List}
 use lib.ListN.{length, getD}
 use lib.Dec.{leb, ltb}
-use lib.IntN.{ℤ, pos, _-ℤ_}
+use lib.IntN.{ℤ, pos}
 use Rattle.laws.specs.Filled.{Filled}
-use Rattle.meaning.specs.Limits.{last-stamp, last-bound}
+use Rattle.meaning.specs.Limits.{last-stamp}
 use Rattle.meaning.specs.Matcher.{at-start, moved}
 use Rattle.property.specs.Meant.{meant}
 use Rattle.property.specs.declared.Property.{Property}
@@ -17,6 +17,7 @@ use Rattle.cuts.specs.Steps.{line-of}
 use Rattle.judged_rest.specs.declared.Reached.{Reached}
 use Rattle.judged_rest.specs.Lent.{Lines, is-output, stamp-at, count}
 use Rattle.judged_rest.specs.Judged.{judged}
+use Rattle.order_moments.specs.Moments.{moment-at}
 
 -- A pair of lists, "numbers and moments".
 pub record Pair : Type 0 where
@@ -95,24 +96,7 @@ pub record Found (p : Property) (ls : Lines) (breaking : Bool) : Type 0 where
   pub sized : Sized ls
   pub below : (j : ℕ) → j < count ls → place p ls breaking j < count ls
 
--- ---- its moments, counted from UB before 0
-
-abbrev pub last-moment : ℕ
-last-moment = last-stamp + 2 * last-bound
-
-abbrev pub low-at : Property → Lines → ℕ → ℕ
-low-at p ls k = cond (is-output ls k) (stamp-at ls k) (stamp-at ls k + p .lb + p .ub)
-
--- The highest lower end of the windows of the first j lines.
-unfoldable pub late : Property → Lines → (ℕ → ℕ) → ℕ → ℕ
-late p ls at zero = 0
-late p ls at (suc j) = max (late p ls at j) (low-at p ls (at j))
-
-abbrev pub moment-of : Property → ℕ → ℤ
-moment-of p m = pos m -ℤ pos (p .ub)
-
-abbrev pub moment-at : Property → Lines → (ℕ → ℕ) → ℕ → ℤ
-moment-at p ls at j = moment-of p (late p ls at (suc j))
+-- ---- what is written
 
 -- Numbers and moments stand in a pair of lists.
 pub record Written (p : Property) (ls : Lines) (breaking : Bool) (before after : Pair) : Type 0 where

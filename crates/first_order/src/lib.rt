@@ -1,19 +1,15 @@
-// The first order of a run with a wanted end, going forward: an output first, wherever that end can still be reached from there; and its
-// earliest moments.
-ghost use Prim.Native.Nat.{ℕ, _+_, _-_, _^_, _≤_, _<_, max};
+// The first order of a run with a wanted end, going forward: an output first, wherever that end can still be reached from there.
+ghost use Prim.Native.Nat.{_+_, _-_, _^_, _≤_, _<_};
 ghost use mathlib.Core.Path.{_≡_};
 ghost use mathlib.Core.Bool.{cond, not};
-ghost use mathlib.Core.List.{[]};
-ghost use lib.ListN.{length, getD};
-ghost use lib.IntN.{pos, _-ℤ_};
+ghost use lib.ListN.{length};
 ghost use Rattle.laws.specs.Filled.{Filled};
-ghost use Rattle.meaning.specs.Limits.{last-stamp, last-bound};
 ghost use Rattle.meaning.specs.Numbers.{property-refusal};
 ghost use Rattle.property.specs.Meant.{meant};
 ghost use Rattle.table.specs.Table.{IsTable};
 ghost use Rattle.matcher.specs.Sets.{Fits};
 ghost use Rattle.judged_rest.specs.Lent.{lent};
-ghost use Rattle.first_order.specs.Search.{pair, next-from, kind-in, Within, Found, number-at, last-moment, moment-at, Written};
+ghost use Rattle.first_order.specs.Search.{pair, next-from, kind-in, Within, Found, number-at, Written};
 ghost use Rattle.first_order.specs.Search;
 use judged_rest::Reached;
 use property::Property;
@@ -141,52 +137,6 @@ fn order(
     }
 }
 
-// The lower end of a line's window, counted from UB before 0.
-fn low(p: Property, output: bool, stamp: u64) -> u64
-    requires { ⌜ (property-refusal (meant p) ≡ 0) × (stamp ≤ last-stamp) ⌝ }
-    ensures { λ r. ⌜ (r ≡ cond output stamp (stamp + p .lb + p .ub)) × (r ≤ last-moment) ⌝ }
-{
-    if output {
-        return stamp;
-    }
-    stamp + p.lb + p.ub
-}
-
-fn later(a: u64, b: u64) -> u64
-    ensures { λ r. ⌜ r ≡ max a b ⌝ }
-{
-    if a < b {
-        return b;
-    }
-    a
-}
-
-// A moment counted from UB before 0, counted from 0.
-fn moment(m: u64, ub: u64) -> i64
-    requires { ⌜ (m ≤ last-moment) × (ub ≤ last-bound) ⌝ }
-    ensures { λ r. ⌜ r ≡ pos m -ℤ pos ub ⌝ }
-{
-    m as i64 - ub as i64
-}
-
-// The earliest moments of an order.
-fn earliest(p: Property, output: &[bool], stamp: &[u64], numbers: &[u64], moments: &mut [i64])
-    requires { ⌜ (property-refusal (meant p) ≡ 0) × (length (now output) ≡ length (now stamp)) × ((i : ℕ) → getD (now stamp) i 0 ≤ last-stamp) ⌝ }
-    requires { ⌜ (length (now stamp) ≤ length (now numbers)) × (length (now stamp) ≤ length (now moments)) ⌝ }
-    requires { ⌜ ((j : ℕ) → j < length (now stamp) → (1 ≤ getD (now numbers) j 0) × (getD (now numbers) j 0 ≤ length (now stamp))) ⌝ }
-    ensures { λ _. ⌜ Filled (pos 0) 0 (length (now (stamp .entry))) (moment-at p (lent (now (output .entry)) [] (now (stamp .entry))) (λ j. getD (now (numbers .entry)) j 0 - 1))
-        (now (moments .entry)) (now (moments .exit)) ⌝ }
-{
-    let mut m = 0;
-    let mut j = 0;
-    while j < stamp.len() {
-        let k = numbers[j] as usize - 1;
-        m = later(m, low(p, output[k], stamp[k]));
-        moments[j] = moment(m, p.ub);
-        j += 1;
-    }
-}
-
 // An order and its moments.
 pub fn write(
     p: Property,
@@ -204,5 +154,5 @@ pub fn write(
         (pair (now (numbers .entry)) (now (moments .entry))) (pair (now (numbers .exit)) (now (moments .exit))) ⌝ }
 {
     order(p, table, output, action, stamp, breaking, numbers);
-    earliest(p, output, stamp, numbers, moments);
+    order_moments::earliest(p, output, stamp, numbers, moments);
 }

@@ -35,7 +35,8 @@ use Rattle.judged_rest.specs.Lent.{Lines, is-output, line-in, count, run-of}
 use Rattle.first_order.specs.Search.{Pair}
 use Rattle.why.specs.Why.{Shows, ShowsBy, Told, over}
 use Rattle.judged_rest.specs.Judged.{waits, judged, Judged}
-use Rattle.first_order.specs.Search.{kind-in, reaches, Sized, start, choice, placed, place, number-at, Found, moment-at, Written}
+use Rattle.first_order.specs.Search.{kind-in, reaches, Sized, start, choice, placed, place, number-at, Found, Written}
+use Rattle.order_moments.specs.Moments.{moment-at}
 use Rattle.why.proofs.Left.{left, both-kinds, either-way}
 use Rattle.why.proofs.Whole.{AllTaken, all-taken}
 use Rattle.why.proofs.Judgement.{says, Taken}

@@ -23,7 +23,8 @@ use Rattle.property.specs.Meant.{meant, action-of}
 use Rattle.property.specs.declared.Property.{Property}
 use Rattle.judged_rest.specs.Lent.{Lines, is-output, stamp-at, line-in, count}
 use Rattle.why.specs.Why.{over}
-use Rattle.first_order.specs.Search.{kind-in, low-at, late, moment-of, moment-at}
+use Rattle.first_order.specs.Search.{kind-in}
+use Rattle.order_moments.specs.Moments.{low-at, late, moment-of, moment-at}
 use Rattle.why.proofs.Left.{left, on}
 use Rattle.why.proofs.Channel.{channel}
 

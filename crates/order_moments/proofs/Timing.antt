@@ -9,7 +9,7 @@ use Rattle.laws.specs.Filled.{Filled}
 use Rattle.laws.proofs.Filled.{filled-none, filled-more}
 use Rattle.property.specs.declared.Property.{Property}
 use Rattle.judged_rest.specs.Lent.{Lines, count}
-use Rattle.first_order.specs.Search.{last-moment, low-at, late, moment-of, moment-at}
+use Rattle.order_moments.specs.Moments.{last-moment, low-at, late, moment-of, moment-at}
 
 -- The highest lower end so far, and the moments of the first j lines.
 pub record Timing (p : Property) (ls : Lines) (at : ℕ → ℕ) (j : ℕ) (before moments : List ℤ) (m : ℕ) : Type 0 where

@@ -4,8 +4,8 @@ use mathlib.Core.Path.{sym, ap}
 use mathlib.Core.Bool.{Bool, cond}
 use native.Mathlib.Omega.{arith}
 use Rattle.property.proofs.Refusal.{taken-bounds}
-use Rattle.first_order.proofs.low.Statement.{statement}
-use Rattle.first_order.proofs.low.Tie as tie
+use Rattle.order_moments.proofs.low.Statement.{statement}
+use Rattle.order_moments.proofs.low.Tie as tie
 
 returns : tie.Need-returns
 returns c = let a = c .before .args in (sym (ap (λ (b : Bool). cond b (a .stamp) (a .stamp + a .p .lb + a .p .ub)) (c .if1 .taken)), omega arith)

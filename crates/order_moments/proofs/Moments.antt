@@ -9,7 +9,7 @@ use mir.Val.{SFits, toZ, ofZ}
 use mir.Facts.{toZ-ofZ, toZ-pos}
 use Rattle.meaning.specs.Limits.{last-bound}
 use Rattle.meaning.proofs.Whole.{up, down, minus-sum}
-use Rattle.first_order.specs.Search.{last-moment}
+use Rattle.order_moments.specs.Moments.{last-moment}
 
 minus-mag : (m b : ℕ) → mag (pos m -ℤ pos b) ≤ m + b
 minus-mag m b = go (pos m -ℤ pos b) (minus-sum m b)

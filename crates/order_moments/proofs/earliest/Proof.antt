@@ -9,11 +9,11 @@ use borrow.Author.Needs.{needs}
 use Rattle.laws.specs.Filled.{Filled}
 use Rattle.property.proofs.Refusal.{taken-bounds}
 use Rattle.judged_rest.specs.Lent.{Lines, lent}
-use Rattle.first_order.specs.Search.{moment-at}
-use Rattle.first_order.proofs.Moments.{moment-stored}
-use Rattle.first_order.proofs.Timing.{Timing, timing-start, timing-low, timing-next}
-use Rattle.first_order.proofs.earliest.Statement.{statement}
-use Rattle.first_order.proofs.earliest.Tie as tie
+use Rattle.order_moments.specs.Moments.{moment-at}
+use Rattle.order_moments.proofs.Moments.{moment-stored}
+use Rattle.order_moments.proofs.Timing.{Timing, timing-start, timing-low, timing-next}
+use Rattle.order_moments.proofs.earliest.Statement.{statement}
+use Rattle.order_moments.proofs.earliest.Tie as tie
 
 abbrev Inv-loop : tie.InvT-loop
 Inv-loop p output stamp numbers moments₀ m₀ j₀ moments m j = Timing p (lent output [] stamp) (λ (j : ℕ). getD numbers j 0 - 1) j moments₀ moments m

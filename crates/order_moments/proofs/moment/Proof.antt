@@ -1,8 +1,8 @@
 -- `first_order::moment` meets its contract.
 use borrow.Author.Needs.{needs}
-use Rattle.first_order.proofs.Moments.{moment-fits, moment-is}
-use Rattle.first_order.proofs.moment.Statement.{statement}
-use Rattle.first_order.proofs.moment.Tie as tie
+use Rattle.order_moments.proofs.Moments.{moment-fits, moment-is}
+use Rattle.order_moments.proofs.moment.Statement.{statement}
+use Rattle.order_moments.proofs.moment.Tie as tie
 
 cast-result : tie.Need-cast-result
 cast-result c = search needs
