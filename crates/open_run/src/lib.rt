@@ -123,7 +123,7 @@ fn mark(
         (in-arrays p (now (held .exit)) (now (acts .exit)) (now (masks .exit)) (now (marks .exit)) (r .status))
         (in-lines outputs actions stamps (r .count))) ⌝ }
 {
-    let told = in_place::mark(p, held, acts, masks, marks, status, lost, stamp);
+    let told = gap_mark::mark(p, held, acts, masks, marks, status, lost, stamp);
     let answer = told.answer;
     let next = told.status;
     if answer.refusal != 0 {

@@ -149,7 +149,7 @@ pub fn record(
             on_line(r, count, true, action, stamp)
         }
         RecordRead::Gap(lost, stamp) => {
-            let r = in_place::mark(p, held, acts, masks, marks, status, lost, stamp);
+            let r = gap_mark::mark(p, held, acts, masks, marks, status, lost, stamp);
             on_mark(r, count, lost, stamp)
         }
         RecordRead::End(_) => ended(status, count),

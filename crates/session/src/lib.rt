@@ -116,7 +116,7 @@ pub fn mark(s: Session, lost: u8, stamp: u64) -> Stepped
     let mut marks = row.marks;
     let status = shared.status;
     in_place::tidy(p, &mut held, &mut acts, &mut masks, &mut marks, status);
-    let marked = in_place::mark(
+    let marked = gap_mark::mark(
         p,
         &mut held,
         &mut acts,

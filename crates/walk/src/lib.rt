@@ -146,7 +146,7 @@ fn one_record(
             after(told, false, action, lost)
         }
         RecordRead::Gap(number, stamp) => {
-            let told = in_place::mark(p, held, acts, masks, marks, status, number, stamp);
+            let told = gap_mark::mark(p, held, acts, masks, marks, status, number, stamp);
             after(told, true, number, lost)
         }
         RecordRead::End(_) => Turn {

@@ -12,8 +12,8 @@ use Rattle.session_record.specs.declared.Session.{Session}
 use Rattle.session_record.specs.Record.{cuts-of}
 use Rattle.session_record.specs.Lent.{in-arrays}
 use Rattle.session_record.proofs.Ready.{ready-ranged}
-use Rattle.in_place.proofs.Lines.{line-refused, line-limit}
-use Rattle.in_place.proofs.Advances.{open-usable, refused-leads, skipped-leads, begun-usable, begun-leads, crowded-is, next-leads}
+use Rattle.answers.proofs.Lines.{line-refused, line-limit}
+use Rattle.answers.proofs.Advances.{open-usable, refused-leads, skipped-leads, begun-usable, begun-leads, crowded-is, next-leads}
 use borrow.Author.Needs.{needs}
 use Rattle.in_place.proofs.line.Statement.{statement}
 use Rattle.in_place.proofs.line.Tie as tie

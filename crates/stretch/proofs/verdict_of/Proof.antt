@@ -5,7 +5,7 @@ use denote.Ref.{now}
 use Rattle.session_record.specs.declared.Session.{Session}
 use Rattle.session_record.specs.Lent.{in-arrays}
 use Rattle.session_record.proofs.Ready.{ready-ranged}
-use Rattle.in_place.proofs.Advances.{open-usable}
+use Rattle.answers.proofs.Advances.{open-usable}
 use Rattle.stretch.proofs.Judging.{standing-blind, standing-open}
 use borrow.Author.Needs.{needs}
 use Rattle.stretch.proofs.verdict_of.Statement.{statement}

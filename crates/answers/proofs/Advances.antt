@@ -25,7 +25,7 @@ use Rattle.session_record.specs.Record.{count-of, latest-of, blind-of, cuts-of}
 use Rattle.session_record.specs.Step.{answer-of}
 use Rattle.session_record.specs.Lent.{in-arrays, Ready, Advanced, LineTaken}
 use Rattle.session_record.proofs.Ready.{ready-ranged, ready-holds, ready-stored, call-refused, call-taken, zeros-stored, begun-holds}
-use Rattle.in_place.proofs.Lines.{Comes, line-skipped, line-first, line-next, line-crowded}
+use Rattle.answers.proofs.Lines.{Comes, line-skipped, line-first, line-next, line-crowded}
 
 -- The call leads to these arrays and what is given back beside them.
 abbrev pub Leads : Session → Call → List ℕ → List ℕ → List ℕ → List ℕ → Told → Type 0

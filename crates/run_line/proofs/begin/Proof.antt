@@ -3,8 +3,8 @@ use mathlib.Core.Path.{ap}
 use lib.ListN.{set}
 use Rattle.matcher.specs.declared.Cut.{Cut}
 use borrow.Author.Needs.{needs}
-use Rattle.in_place.proofs.begin.Statement.{statement}
-use Rattle.in_place.proofs.begin.Tie as tie
+use Rattle.run_line.proofs.begin.Statement.{statement}
+use Rattle.run_line.proofs.begin.Tie as tie
 
 start-requires : tie.Need-start-requires
 start-requires c κs = search needs

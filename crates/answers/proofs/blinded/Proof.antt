@@ -4,8 +4,8 @@ use mathlib.Core.Path.{ap}
 use Rattle.session_record.specs.declared.Answer.{Answer}
 use Rattle.session_record.specs.declared.Told.{Told}
 use borrow.Author.Needs.{needs}
-use Rattle.in_place.proofs.blinded.Statement.{statement}
-use Rattle.in_place.proofs.blinded.Tie as tie
+use Rattle.answers.proofs.blinded.Statement.{statement}
+use Rattle.answers.proofs.blinded.Tie as tie
 
 taken-requires : tie.Need-taken-requires
 taken-requires c κs = search needs

@@ -10,8 +10,8 @@ use Rattle.cuts.specs.Steps.{line-of, front-after, front-says}
 use Rattle.cuts.specs.Arrays.{row, front-of}
 use Rattle.cuts.proofs.Lines.{stored}
 use borrow.Author.Needs.{needs}
-use Rattle.in_place.proofs.run_on.Statement.{statement}
-use Rattle.in_place.proofs.run_on.Tie as tie
+use Rattle.run_line.proofs.run_on.Statement.{statement}
+use Rattle.run_line.proofs.run_on.Tie as tie
 
 -- room for an input
 room : (n : ℕ) (out : Bool) → out ≡ false → n + cond out 0 1 ≤ 64 → n < 64

@@ -3,8 +3,8 @@ use mathlib.Core.Path.{ap}
 use Rattle.session_record.specs.declared.Answer.{Answer}
 use Rattle.session_record.specs.declared.Told.{Told}
 use borrow.Author.Needs.{needs}
-use Rattle.in_place.proofs.unmoved.Statement.{statement}
-use Rattle.in_place.proofs.unmoved.Tie as tie
+use Rattle.answers.proofs.unmoved.Statement.{statement}
+use Rattle.answers.proofs.unmoved.Tie as tie
 
 refused-requires : tie.Need-refused-requires
 refused-requires c κs = search needs

@@ -5,10 +5,10 @@ use Rattle.meaning.specs.Calls.{Call, mark-at}
 use Rattle.session_record.specs.declared.Session.{Session}
 use Rattle.session_record.specs.Lent.{in-arrays}
 use Rattle.session_record.proofs.Ready.{ready-ranged}
-use Rattle.in_place.proofs.Advances.{open-usable, refused-leads, marked-blind, marked-open}
+use Rattle.answers.proofs.Advances.{open-usable, refused-leads, marked-blind, marked-open}
 use borrow.Author.Needs.{needs}
-use Rattle.in_place.proofs.mark.Statement.{statement}
-use Rattle.in_place.proofs.mark.Tie as tie
+use Rattle.gap_mark.proofs.mark.Statement.{statement}
+use Rattle.gap_mark.proofs.mark.Tie as tie
 
 -- the record that the arrays make up at the entry, and the call
 abbrev entry : tie.Start → Session

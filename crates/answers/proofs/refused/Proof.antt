@@ -3,8 +3,8 @@ use native.Mathlib.Omega.{arith}
 use borrow.Author.Needs.{needs}
 use borrow.Author.Tests.{lt-ltb, le-ltb}
 use Rattle.meaning.specs.Limits.{last-action}
-use Rattle.in_place.proofs.refused.Statement.{statement}
-use Rattle.in_place.proofs.refused.Tie as tie
+use Rattle.answers.proofs.refused.Statement.{statement}
+use Rattle.answers.proofs.refused.Tie as tie
 
 returns : tie.Need-returns
 returns c = simp (lt-ltb last-action (c .before .args .number) (omega arith))

@@ -4,8 +4,8 @@ use mathlib.Core.Path.{sym, ap, _∙_}
 use mathlib.Core.Bool.{Bool, cond}
 use native.Mathlib.Nat.{add-zero}
 use borrow.Author.Needs.{needs}
-use Rattle.in_place.proofs.open_after.Statement.{statement}
-use Rattle.in_place.proofs.open_after.Tie as tie
+use Rattle.answers.proofs.open_after.Statement.{statement}
+use Rattle.answers.proofs.open_after.Tie as tie
 
 sub-result : tie.Need-sub-result
 sub-result c = search needs

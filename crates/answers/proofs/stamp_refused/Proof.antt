@@ -2,8 +2,8 @@
 use native.Mathlib.Omega.{arith}
 use borrow.Author.Tests.{lt-ltb, le-ltb}
 use Rattle.meaning.specs.Limits.{last-stamp}
-use Rattle.in_place.proofs.stamp_refused.Statement.{statement}
-use Rattle.in_place.proofs.stamp_refused.Tie as tie
+use Rattle.answers.proofs.stamp_refused.Statement.{statement}
+use Rattle.answers.proofs.stamp_refused.Tie as tie
 
 returns : tie.Need-returns
 returns c = simp (lt-ltb last-stamp (c .before .args .t) (omega arith))
