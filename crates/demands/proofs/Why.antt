@@ -1,19 +1,19 @@
 -- Document 02, CR 6, as theorems: `why::explain`.
 use Prim.Native.Nat.{ℕ, zero, suc, _^_, _<_}
 use mathlib.Core.Path.{_≡_, refl, sym, ap, ap₂, _∙_, subst}
-use mathlib.Core.Bool.{false, _||_}
-use mathlib.Core.List.{List, [], _∷_, _++_, append-nil}
+use mathlib.Core.Bool.{_||_}
+use mathlib.Core.List.{List, [], _∷_, _++_}
 use native.Mathlib.Omega.{arith}
-use lib.ListN.{length, take, drop, length-append}
+use lib.ListN.{length, take, drop}
 use lib.Dec.{ltb}
 use lib.IntN.{ℤ, pos, negsuc}
-use Rattle.meaning.specs.Words.{Line, Run, StampsFrom}
+use Rattle.meaning.specs.Words.{Line, Run}
 use Rattle.meaning.specs.Words
-use Rattle.meaning.specs.Node.{Order, Explanation, Given, Breaks, Verdict, verdict-number, IsVerdict}
+use Rattle.meaning.specs.Node.{Given, Verdict, verdict-number, IsVerdict}
 use Rattle.meaning.specs.Numbers.{given, first-of, property-refusal}
 use Rattle.meaning.specs.Calls.{Call, Watch, fresh, watched, AllTaken, Standing}
 use Rattle.meaning.proofs.Refusals.{first-of-none}
-use Rattle.reasons.specs.Reasons.{Earliest, ReachedAt, Names, line-numbers, lines-refusal}
+use Rattle.reasons.specs.Reasons.{Earliest, Names, line-numbers, lines-refusal}
 use Rattle.reasons.proofs.Reached.{one-verdict, reached-clear}
 use Rattle.reasons.proofs.Numbers.{numbers-name, order-long}
 use Rattle.reasons.proofs.Lines.{as-calls, takes-all, StopsAt, stops-at}
@@ -23,7 +23,7 @@ use Rattle.session_record.specs.Step.{stepped-of}
 use Rattle.judged_rest.specs.declared.Reason.{Reason}
 use Rattle.judged_rest.specs.Lent.{Lines, count, run-of}
 use Rattle.first_order.specs.Search.{Pair}
-use Rattle.why.specs.Why.{shorter, uneven, why-refusal, over, Shows, ShowsBy, Told, ReasonBy, IsReason}
+use Rattle.why.specs.Why.{shorter, uneven, why-refusal, over, Shows, ShowsBy, ReasonBy, IsReason}
 use Rattle.why.proofs.Determined.{taken-parts}
 use Rattle.line_text.specs.Text.{decimal}
 use Rattle.reason_text.specs.Reason.{signed}

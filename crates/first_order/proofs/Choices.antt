@@ -8,7 +8,7 @@ use Rattle.property.specs.declared.Property.{Property}
 use Rattle.judged_rest.specs.declared.Reached.{Reached}
 use Rattle.judged_rest.specs.Lent.{Lines, count, stamp-at}
 use Rattle.judged_rest.specs.Judged.{judged}
-use Rattle.first_order.specs.Search.{next-from, kind-in, next-place, reaches, with-line, choice-of, choice}
+use Rattle.first_order.specs.Search.{next-from, kind-in, reaches, with-line, choice-of, choice}
 
 abbrev picked : Bool → Bool → Bool → Bool → ℕ → ℕ → ℕ
 picked a b c d x y = cond a x (cond b y (cond c x (cond d y x)))

@@ -1,15 +1,15 @@
 -- An order's numbers and moments together.
 use Prim.Native.Nat.{ℕ, zero, suc, _-_, _≤_, _<_, max}
-use mathlib.Core.Path.{_≡_, refl, sym, ap, ap₂, _∙_, subst}
-use mathlib.Core.Bool.{Bool, cond}
+use mathlib.Core.Path.{_≡_, refl, ap, ap₂, _∙_}
+use mathlib.Core.Bool.{Bool}
 use mathlib.Core.List.{List, []}
 use native.Mathlib.Omega.{arith}
 use lib.ListN.{getD}
 use lib.IntN.{ℤ, pos}
 use Rattle.laws.specs.Filled.{Filled}
 use Rattle.property.specs.declared.Property.{Property}
-use Rattle.judged_rest.specs.Lent.{Lines, lent, is-output, stamp-at, count}
-use Rattle.first_order.specs.Search.{Pair, pair}
+use Rattle.judged_rest.specs.Lent.{Lines, lent, count}
+use Rattle.first_order.specs.Search.{pair}
 use Rattle.first_order.specs.Search.{place, number-at, Found, Written}
 use Rattle.order_moments.specs.Moments.{low-at, late, moment-of, moment-at}
 

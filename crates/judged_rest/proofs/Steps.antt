@@ -1,12 +1,13 @@
 -- One step of a judgement on lent arrays.
 use Prim.Native.Nat.{ℕ, zero, suc, _+_}
-use mathlib.Core.Path.{_≡_, refl, sym, ap, _∙_, subst}
+use mathlib.Core.Path.{_≡_, refl, sym, ap, _∙_}
 use mathlib.Core.Bool.{Bool, true, false, cond}
 use native.Mathlib.Numerals.{add-one}
-use borrow.Author.Tests.{ne-eqb}
+use lib.Dec.{eqb}
+use borrow.Author.Tests.{eqb-true}
 use Rattle.meaning.specs.Words.{Line}
 use Rattle.meaning.specs.Numbers.{property-refusal}
-use Rattle.meaning.specs.Calls.{Call, unless-refused}
+use Rattle.meaning.specs.Calls.{Call}
 use Rattle.meaning.specs.Calls
 use Rattle.meaning.proofs.Refusals.{unless-taken, unless-kept}
 use Rattle.property.specs.Meant.{meant}
@@ -15,7 +16,7 @@ use Rattle.cuts.specs.Steps.{next-by, answer-by}
 use Rattle.session_record.specs.declared.Session.{Session}
 use Rattle.session_record.specs.declared.Answer.{Answer}
 use Rattle.session_record.specs.declared.Stepped.{Stepped}
-use Rattle.session_record.specs.Record.{cuts-of, record-of}
+use Rattle.session_record.specs.Record.{cuts-of}
 use Rattle.session_record.specs.Step.{answer-of, stepped-of}
 use Rattle.session_record.specs.Lent.{Ready, Advanced}
 use Rattle.session_record.proofs.Range.{ranged}
@@ -25,10 +26,15 @@ use Rattle.judged_rest.specs.declared.Reason.{Reason}
 use Rattle.judged_rest.specs.declared.Reached.{Reached}
 use Rattle.judged_rest.specs.Judged.{Judged, waits, refused-by, told-then, told-by, judged-line, turned, Turned}
 
--- another verdict than before
-pub told-changed : (before : Reason) (v k : ℕ) → (before .verdict ≡ v → ⊥) → record { refusal = 0; verdict = v; line = k + 1 } ≡ told-then before v k
-told-changed before v k h =
-    (λ i. record { refusal = 0; verdict = v; line = add-one k i }) ∙ sym (ap (λ (b : Bool). cond b before (record { refusal = 0; verdict = v; line = suc k })) (ne-eqb (before .verdict) v h))
+-- the verdict with the line after which it was first told
+pub told-at : (before : Reason) (v k line : ℕ) → before .refusal ≡ 0 → line ≡ cond (eqb (before .verdict) v) (before .line) (k + 1)
+    → record { refusal = 0; verdict = v; line = line } ≡ told-then before v k
+told-at before v k line none at = go (eqb (before .verdict) v) refl at
+  where
+    go : (same : Bool) → eqb (before .verdict) v ≡ same → line ≡ cond same (before .line) (k + 1)
+        → record { refusal = 0; verdict = v; line = line } ≡ cond same before (record { refusal = 0; verdict = v; line = suc k })
+    go true e h = λ i. record { refusal = sym none i; verdict = sym (eqb-true (before .verdict) v e) i; line = h i }
+    go false e h = λ i. record { refusal = 0; verdict = v; line = (h ∙ add-one k) i }
 
 -- ---- a turn
 

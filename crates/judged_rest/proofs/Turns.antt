@@ -1,20 +1,16 @@
 -- The judgement's loop on lent arrays: where it starts, and a turn of it.
 use Prim.Native.Nat.{ℕ, suc, _+_}
-use mathlib.Core.Path.{_≡_, refl, sym, ap, _∙_, subst}
-use mathlib.Core.List.{[], _∷_}
+use mathlib.Core.Path.{_≡_, sym, ap, _∙_, subst}
 use native.Mathlib.Omega.{arith}
-use lib.ListN.{replicate}
 use Rattle.laws.specs.Places.{first}
 use Rattle.meaning.specs.Numbers.{property-refusal}
 use Rattle.meaning.specs.Node.{verdict-number}
-use Rattle.meaning.specs.Matcher.{Lengths}
-use Rattle.meaning.specs.Step.{Cuts}
 use Rattle.meaning.proofs.Lists.{done}
 use Rattle.meaning.proofs.InOrder.{ended}
 use Rattle.property.specs.Meant.{meant}
 use Rattle.property.specs.declared.Property.{Property}
 use Rattle.matcher.specs.declared.Cut.{Cut}
-use Rattle.matcher.specs.Sets.{set-of, cut-of, Fits, set-verdict}
+use Rattle.matcher.specs.Sets.{set-of, Fits, set-verdict}
 use Rattle.matcher.proofs.Words.{cut-back, fits-short}
 use Rattle.session_record.specs.declared.Session.{Session}
 use Rattle.session_record.specs.Record.{cuts-of, record-of}
@@ -24,7 +20,7 @@ use Rattle.session_record.proofs.Ready.{fit-ready}
 use Rattle.judged_rest.specs.declared.Reason.{Reason}
 use Rattle.judged_rest.specs.declared.Reached.{Reached}
 use Rattle.judged_rest.specs.Lent.{Lines, is-output, line-in}
-use Rattle.judged_rest.specs.Judged.{Judged, Turned, begun, judged, turned}
+use Rattle.judged_rest.specs.Judged.{Turned, begun, judged, turned}
 
 module _ (p : Property) (good : property-refusal (meant p) ≡ 0) (c : Cut) (fits : Fits p c) where
   pub begun-fit : Fit p (begun p c .cuts)

@@ -2,7 +2,9 @@
 // line whether it is an output, its action's number, its stamp.
 ghost use Prim.Native.Nat.{_+_, _^_, _<_};
 ghost use mathlib.Core.Path.{_≡_};
+ghost use mathlib.Core.Bool.{cond};
 ghost use lib.ListN.{length};
+ghost use lib.Dec.{eqb};
 ghost use Rattle.meaning.specs.Numbers.{property-refusal};
 ghost use Rattle.property.specs.Meant.{meant};
 ghost use Rattle.table.specs.Table.{IsTable};
@@ -58,18 +60,26 @@ pub fn refused(number: u64) -> Reason
     }
 }
 
-// The verdict after the line at place k. Another than before was first told there.
-fn told(before: Reason, verdict: u64, k: usize) -> Reason
+// The line after which this verdict was first told: the one at place k, where it is another than before.
+fn first_told(before: Reason, verdict: u64, k: usize) -> u64
     requires { ⌜ k + 1 < 2 ^ 64 ⌝ }
-    ensures { λ r. ⌜ r ≡ told-then before verdict k ⌝ }
+    ensures { λ r. ⌜ r ≡ cond (eqb (before .verdict) verdict) (before .line) (k + 1) ⌝ }
 {
     if before.verdict == verdict {
-        return before;
+        return before.line;
     }
+    k as u64 + 1
+}
+
+// The verdict after the line at place k.
+fn told(before: Reason, verdict: u64, k: usize) -> Reason
+    requires { ⌜ (before .refusal ≡ 0) × (k + 1 < 2 ^ 64) ⌝ }
+    ensures { λ r. ⌜ r ≡ told-then before verdict k ⌝ }
+{
     Reason {
         refusal: 0,
         verdict: verdict,
-        line: k as u64 + 1,
+        line: first_told(before, verdict, k),
     }
 }
 

@@ -9,7 +9,7 @@ use Rattle.meaning.specs.Words.{Action, Property, Line}
 use Rattle.meaning.specs.Node.{Window, Given, NeverFall, Timed}
 use Rattle.meaning.proofs.Whole.{le-out, le-in, minus-sum}
 use Rattle.meaning.proofs.Lists.{all-of}
-use Rattle.meaning.proofs.Pairs.{Bounds, Pairs, low, Under, earliest, zero-under, earliest-given, earliest-never-fall, timed-pairs}
+use Rattle.meaning.proofs.Pairs.{Bounds, Pairs, low, earliest, zero-under, earliest-given, earliest-never-fall, timed-pairs}
 use Rattle.reasons.specs.Reasons.{NoneLater, Earliest}
 
 module _ (p : Property) where

@@ -1,5 +1,4 @@
 -- The first explanation of a sort exists wherever there is one of that sort.
-use Prim.Native.Nat.{ℕ}
 use mathlib.Core.Path.{_≡_, refl, sym, _∙_}
 use mathlib.Core.Logic.{_↔_, _⊎_, inl, inr}
 use mathlib.Core.Bool.{Bool, true, false, true≢false}
@@ -16,7 +15,7 @@ use Rattle.meaning.proofs.Facts.{explains-pairs, pairs-explain, explanation-exi
 use Rattle.meaning.proofs.Sets.{Matcher, along}
 use Rattle.meaning.proofs.Matching.{state-matcher, matcher-reads}
 use Rattle.meaning.proofs.Lengths.{some-sequence}
-use Rattle.reasons.specs.Reasons.{First, FirstExplanation, Any}
+use Rattle.reasons.specs.Reasons.{FirstExplanation, Any}
 use Rattle.reasons.proofs.Search.{Fitting, first-fitting}
 
 module _ (p : Property) (good : property-refusal p ≡ 0) (run : Run) (rise : StampsFrom 0 run) where

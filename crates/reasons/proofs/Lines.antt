@@ -1,13 +1,13 @@
 -- Lines judged one after the other: the number is the one that a session gives for the first that it does not take, and where it takes all
 -- they are the run that it has open.
 use Prim.Native.Nat.{ℕ, zero, suc}
-use mathlib.Core.Path.{_≡_, refl, sym, ap, _∙_, subst}
+use mathlib.Core.Path.{_≡_, refl, sym, ap, _∙_}
 use mathlib.Core.Bool.{false}
 use native.Mathlib.Omega.{arith}
 use mathlib.Core.List.{List, [], _∷_, _++_, map, append-nil}
 use Rattle.meaning.specs.Words.{Property, Line, Run}
 use Rattle.meaning.specs.Numbers.{first-of}
-use Rattle.meaning.specs.Calls.{Call, Watch, refusal, taken, next, watched, AllTaken}
+use Rattle.meaning.specs.Calls.{Call, Watch, refusal, taken, watched, AllTaken}
 use Rattle.meaning.proofs.Lists.{snoc-append}
 use Rattle.meaning.proofs.Refusals.{first-of-none, unless-taken}
 use Rattle.reasons.specs.Reasons.{lines-refusal}

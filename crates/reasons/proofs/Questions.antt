@@ -1,17 +1,17 @@
 -- The step over cuts with another start: the verdict of lines that follow on a state of the matcher.
-use Prim.Native.Nat.{ℕ, _+_, _*_, _≤_}
+use Prim.Native.Nat.{ℕ, _+_, _≤_}
 use mathlib.Core.Path.{_≡_, refl, sym, _∙_, ap, subst}
 use mathlib.Core.Logic.{_↔_}
-use mathlib.Core.Bool.{Bool, true, cond}
+use mathlib.Core.Bool.{true, cond}
 use mathlib.Core.List.{List, [], _∷_, _++_, append-nil}
 use native.Mathlib.Omega.{arith}
 use lib.ListN.{length}
 use Rattle.meaning.specs.Words.{Action, Property, Line, Run, StampsFrom}
-use Rattle.meaning.specs.Node.{Verdict, VerdictFor}
+use Rattle.meaning.specs.Node.{VerdictFor}
 use Rattle.meaning.specs.Calls.{is-open, open-at}
 use Rattle.meaning.specs.Step.{Sets, Held, Front, last-set, closed, appended, swept-one, swept, front-next, front-with, verdict-of, front-verdict}
 use Rattle.meaning.proofs.Lists.{All, also, snoc-append}
-use Rattle.meaning.proofs.Sets.{Matcher, along, SetLaws, Reading}
+use Rattle.meaning.proofs.Sets.{Matcher, along, Reading}
 use Rattle.meaning.proofs.Exact.{Fits, fresh-fits, front-fits, held-is-open, front-verdict-exact}
 
 -- sets with another start

@@ -3,12 +3,12 @@ use Prim.Native.Nat.{ℕ, zero, suc, _+_, _*_, _≤_, _<_}
 use mathlib.Core.Path.{_≡_, refl, sym, _∙_, ap, subst}
 use mathlib.Core.Logic.{_⊎_, inl, inr}
 use mathlib.Core.Bool.{Bool, true, false}
-use mathlib.Core.List.{List, [], _∷_, _++_, head-eq-of-cons-eq, tail-eq-of-cons-eq, nil≢cons}
+use mathlib.Core.List.{List, [], _∷_, head-eq-of-cons-eq, tail-eq-of-cons-eq, nil≢cons}
 use native.Mathlib.Omega.{arith}
 use lib.ListN.{length}
 use lib.Dec.{leb}
 use borrow.Author.Tests.{leb-true, leb-false}
-use Rattle.meaning.specs.Words.{Action, Property, Line, StampsFrom}
+use Rattle.meaning.specs.Words.{Property, Line, StampsFrom}
 use Rattle.meaning.specs.Node.{ins, outs, InputFirst, OutputFirst}
 use Rattle.meaning.proofs.Lists.{All, done, also, all-head, all-tail, all-map, all-both, all-ins, all-outs, all-channels, from-all, from-weaker}
 use Rattle.meaning.proofs.Pairs.{Bounds, May, Pairs, none, first}

@@ -4,7 +4,7 @@ use mathlib.Core.Logic.{_↔_}
 use mathlib.Core.List.{List}
 use native.Mathlib.Omega.{arith}
 use Rattle.meaning.specs.Words.{Property, Line, Run, StampsFrom}
-use Rattle.meaning.specs.Node.{Explanation, Some, Verdict, verdict-number, VerdictFor}
+use Rattle.meaning.specs.Node.{Some, Verdict, verdict-number, VerdictFor}
 use Rattle.meaning.proofs.Pairs.{Bounds}
 use Rattle.meaning.proofs.Facts.{explanation-exists}
 

@@ -1,5 +1,5 @@
 -- The reader's answer: what is known where it refuses and where it takes.
-use Prim.Native.Nat.{ℕ, zero, suc, _+_, _^_, _<_, _≤_}
+use Prim.Native.Nat.{ℕ, zero, suc, _+_, _<_, _≤_}
 use mathlib.Core.Bool.{Bool, false, not, true≢false}
 use mathlib.Core.Path.{_≡_, refl, sym, _∙_, ap, subst}
 use mathlib.Core.List.{List}
@@ -10,7 +10,7 @@ use borrow.Author.Tests.{lt-ltb, le-ltb, ltb-false, eqb-true, not-false}
 use Rattle.laws.proofs.Tests.{or-split}
 use Rattle.meaning.specs.Numbers.{given, first-of}
 use Rattle.meaning.proofs.Refusals.{given-none, none-first, unless-taken, unless-kept}
-use Rattle.fields.specs.Fields.{field, bit}
+use Rattle.fields.specs.Fields.{field}
 use Rattle.fields.proofs.Laws.{field-lt}
 use Rattle.record_form.specs.declared.RecordRead.{RecordRead}
 use Rattle.record_form.specs.declared.RecordRead.the-variants.{Refused}

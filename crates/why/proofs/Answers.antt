@@ -1,16 +1,13 @@
 -- The call's answer, refusal by refusal, and where there is none.
 use Prim.Native.Nat.{ℕ, zero, suc, _≤_, _<_}
-use mathlib.Core.Path.{_≡_, refl, sym, ap, ap₂, _∙_, subst}
+use mathlib.Core.Path.{_≡_, refl, sym, ap, _∙_, subst}
 use mathlib.Core.Bool.{Bool, true, false, not, _||_}
-use mathlib.Core.List.{List}
 use native.Mathlib.Omega.{arith}
 use lib.ListN.{length, List·getD-eq-default}
 use lib.Dec.{eqb, ltb}
 use borrow.Author.Tests.{eq-eqb, ne-eqb, lt-ltb, le-ltb, ltb-true, ltb-false}
 use Rattle.laws.proofs.Tests.{neither}
-use Rattle.laws.specs.Places.{first}
 use Rattle.meaning.specs.Limits.{last-stamp}
-use Rattle.meaning.specs.Words.{Run}
 use Rattle.meaning.specs.Words
 use Rattle.meaning.specs.Numbers.{given, first-of, property-refusal}
 use Rattle.meaning.specs.Calls.{fresh}

@@ -1,27 +1,26 @@
 -- The two channels of what is left of a run, by places.
-use Prim.Native.Nat.{ℕ, zero, suc, _-_, _≤_, _<_}
+use Prim.Native.Nat.{ℕ, zero, suc, _-_}
 use mathlib.Core.Path.{_≡_, refl, sym, ap, ap₂, _∙_, subst}
 use mathlib.Core.Logic.{_↔_}
 use mathlib.Core.Bool.{Bool, true, false, cond, not, _&&_}
 use mathlib.Core.List.{List, [], _∷_, _++_}
-use native.Mathlib.Omega.{arith}
-use lib.ListN.{length, getD}
+use lib.ListN.{getD}
 use lib.Dec.{leb}
 use Rattle.meaning.specs.Words.{Line}
 use Rattle.meaning.specs.Words
 use Rattle.meaning.specs.Node.{ins, outs}
 use Rattle.meaning.specs.Numbers.{property-refusal}
-use Rattle.meaning.specs.Matcher.{is-input, Lengths, State, state-next, moved}
+use Rattle.meaning.specs.Matcher.{Lengths, State, state-next, moved}
 use Rattle.meaning.proofs.Lists.{ins-append, outs-append}
 use Rattle.meaning.proofs.Lengths.{lengths-reading}
-use Rattle.property.specs.Meant.{meant, action-of}
+use Rattle.property.specs.Meant.{meant}
 use Rattle.property.specs.declared.Property.{Property}
 use Rattle.matcher.specs.declared.Cut.{Cut}
 use Rattle.matcher.specs.Sets.{set-of, cut-of, Fits}
 use Rattle.matcher.proofs.Words.{set-back, short-fits, moved-short}
 use Rattle.cuts.specs.Steps.{line-of}
 use Rattle.judged_rest.specs.declared.Reached.{Reached}
-use Rattle.judged_rest.specs.Lent.{Lines, is-output, line-in, count}
+use Rattle.judged_rest.specs.Lent.{Lines, is-output, line-in}
 use Rattle.judged_rest.specs.Judged.{waits}
 use Rattle.first_order.specs.Search.{kind-in}
 use Rattle.why.proofs.Left.{left, on}

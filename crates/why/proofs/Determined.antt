@@ -18,7 +18,7 @@ use Rattle.property.specs.declared.Property.{Property}
 use Rattle.judged_rest.specs.declared.Reason.{Reason}
 use Rattle.judged_rest.specs.Lent.{Lines, count, run-of}
 use Rattle.first_order.specs.Search.{Pair, pair}
-use Rattle.why.specs.Why.{uneven, size-refusal, why-refusal, over, Shows, ShowsBy, Told, Refused, ReasonBy, IsReason}
+use Rattle.why.specs.Why.{uneven, size-refusal, why-refusal, over, Shows, ShowsBy, ReasonBy, IsReason}
 use Rattle.why.proofs.Judgement.{Sofar, all-of, stopped, sofar}
 
 -- the run of a call that is taken: stamps never fall

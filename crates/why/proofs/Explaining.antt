@@ -1,16 +1,16 @@
 -- A run all of whose lines are taken: what was judged and what was written answer the call.
-use Prim.Native.Nat.{ℕ, zero, suc, _+_, _≤_, _<_}
+use Prim.Native.Nat.{ℕ, zero, suc, _+_, _≤_}
 use mathlib.Core.Path.{_≡_, refl, sym, ap, ap₂, _∙_, subst}
-use mathlib.Core.Logic.{_↔_, _⊎_}
+use mathlib.Core.Logic.{_↔_}
 use mathlib.Core.Bool.{Bool, true, false, cond, true≢false}
 use mathlib.Core.List.{List, [], _∷_, _++_}
 use native.Mathlib.Omega.{arith}
 use lib.ListN.{length}
-use lib.Dec.{leb, ltb}
+use lib.Dec.{ltb}
 use borrow.Author.Tests.{lt-ltb, le-ltb, le-leb}
 use Rattle.laws.specs.Places.{first}
 use Rattle.laws.proofs.Places.{first-snoc}
-use Rattle.meaning.specs.Words.{Line, Run, StampsFrom}
+use Rattle.meaning.specs.Words.{Line, StampsFrom}
 use Rattle.meaning.specs.Words
 use Rattle.meaning.specs.Node.{ins, outs, Explanation, Breaks, Verdict, verdict-number, IsVerdict}
 use Rattle.meaning.specs.Numbers.{property-refusal}
@@ -23,25 +23,24 @@ use Rattle.meaning.proofs.Sets.{Matcher, along}
 use Rattle.meaning.proofs.Matching.{state-matcher, matcher-reads}
 use Rattle.meaning.proofs.Lengths.{lengths-reading, some-sequence}
 use Rattle.meaning.proofs.Exact.{front-verdict-exact}
-use Rattle.reasons.specs.Reasons.{Sooner, First, FirstExplanation, Any, Earliest, ReachedAt, numbered, line-numbers}
+use Rattle.reasons.specs.Reasons.{First, FirstExplanation, Any, Earliest, ReachedAt, numbered, line-numbers}
 use Rattle.reasons.proofs.Earliest.{timed-earliest}
 use Rattle.reasons.proofs.Search.{Fitting, found-first}
 use Rattle.property.specs.Meant.{meant}
 use Rattle.property.specs.declared.Property.{Property}
-use Rattle.matcher.specs.Sets.{set-of, cut-of}
 use Rattle.matcher.proofs.Words.{set-back, start-short}
 use Rattle.judged_rest.specs.declared.Reason.{Reason}
 use Rattle.judged_rest.specs.Lent.{Lines, is-output, line-in, count, run-of}
 use Rattle.first_order.specs.Search.{Pair}
 use Rattle.why.specs.Why.{Shows, ShowsBy, Told, over}
 use Rattle.judged_rest.specs.Judged.{waits, judged, Judged}
-use Rattle.first_order.specs.Search.{kind-in, reaches, Sized, start, choice, placed, place, number-at, Found, Written}
+use Rattle.first_order.specs.Search.{kind-in, reaches, Sized, start, place, number-at, Found, Written}
 use Rattle.order_moments.specs.Moments.{moment-at}
 use Rattle.why.proofs.Left.{left, both-kinds, either-way}
 use Rattle.why.proofs.Whole.{AllTaken, all-taken}
 use Rattle.why.proofs.Judgement.{says, Taken}
 use Rattle.why.proofs.Channel.{channel, ins-left, outs-left, Only}
-use Rattle.why.proofs.Placing.{Can, asked, channel-in, channel-out, rises-in, rises-out}
+use Rattle.why.proofs.Placing.{asked, channel-in, channel-out, rises-in, rises-out}
 use Rattle.why.proofs.Route.{route-of, Route, goes}
 use Rattle.why.proofs.Showing.{filled-over, in-numbers, out-numbers, earliest-places}
 

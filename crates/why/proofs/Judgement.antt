@@ -1,16 +1,15 @@
 -- The judgement of a whole run, line by line: as long as all lines are taken it is the step over cuts, with the verdict that is exact
 -- and the line after which it was first reached; behind a refusal it is that refusal.
-use Prim.Native.Nat.{ℕ, zero, suc, _≤_, _<_}
-use mathlib.Core.Path.{_≡_, refl, sym, ap, ap₂, _∙_, subst}
+use Prim.Native.Nat.{ℕ, zero, suc, _≤_}
+use mathlib.Core.Path.{_≡_, refl, sym, ap, _∙_, subst}
 use mathlib.Core.Bool.{Bool, true, false, cond}
-use mathlib.Core.List.{List, [], _∷_, _++_}
+use mathlib.Core.List.{[], _∷_, _++_}
 use native.Mathlib.Omega.{arith}
-use lib.ListN.{length}
-use lib.Dec.{eqb, leb}
+use lib.Dec.{eqb}
 use borrow.Author.Tests.{eqb-true, eqb-false, le-leb}
 use Rattle.laws.specs.Places.{first}
 use Rattle.laws.proofs.Places.{length-first, first-snoc}
-use Rattle.meaning.specs.Words.{Line, Run, StampsFrom}
+use Rattle.meaning.specs.Words.{Line, Run}
 use Rattle.meaning.specs.Words
 use Rattle.meaning.specs.Node.{Breaks, Verdict, verdict-number, IsVerdict}
 use Rattle.meaning.specs.Numbers.{first-of, action-above, property-refusal}
@@ -27,12 +26,11 @@ use Rattle.reasons.specs.Reasons.{ReachedAt, lines-refusal}
 use Rattle.reasons.proofs.Reached.{reached-empty, reached-same, reached-new, same-number, one-verdict}
 use Rattle.property.specs.Meant.{meant}
 use Rattle.property.specs.declared.Property.{Property}
-use Rattle.matcher.specs.Sets.{set-of, cut-of}
 use Rattle.matcher.proofs.Words.{set-back, start-short}
-use Rattle.cuts.specs.Steps.{refusal-by, answer-by, next-by, taken-by, told-by}
+use Rattle.cuts.specs.Steps.{refusal-by, taken-by, told-by}
 use Rattle.judged_rest.specs.declared.Reason.{Reason}
 use Rattle.judged_rest.specs.Lent.{Lines, is-output, line-in}
-use Rattle.judged_rest.specs.Judged.{Judged, waits, refused-by, told-then, judged-line, turned, begun, judged}
+use Rattle.judged_rest.specs.Judged.{Judged, waits, refused-by, told-then, judged-line, turned, judged}
 use Rattle.first_order.specs.Search.{start}
 use Rattle.judged_rest.specs.Judged
 use Rattle.why.proofs.Left.{either-way}

@@ -1,45 +1,35 @@
 -- The order that is written, line by line, is found as the search of the first order says; and its numbers are its lines'.
-use Prim.Native.Nat.{ℕ, zero, suc, _+_, _*_, _-_, _≤_, _<_}
-use mathlib.Core.Path.{_≡_, refl, sym, ap, ap₂, _∙_, subst}
+use Prim.Native.Nat.{ℕ, _-_, _≤_}
+use mathlib.Core.Path.{_≡_, sym, _∙_, subst}
 use mathlib.Core.Logic.{_↔_}
-use mathlib.Core.Bool.{Bool, true, false, cond, not, true≢false}
-use mathlib.Core.List.{List, [], _∷_, _++_}
-use native.Mathlib.Omega.{arith}
-use lib.ListN.{length, getD}
-use lib.Dec.{leb, ltb}
-use borrow.Author.Tests.{leb-true, leb-false, ltb-true, ltb-false, le-leb}
+use mathlib.Core.Bool.{Bool, true, false, true≢false}
+use mathlib.Core.List.{List}
+use borrow.Author.Tests.{leb-true, le-leb}
 use Rattle.laws.specs.Places.{first}
-use Rattle.laws.proofs.Places.{first-same}
 use Rattle.meaning.specs.Words.{Line, StampsFrom}
 use Rattle.meaning.specs.Words
-use Rattle.meaning.specs.Node.{ins, outs, Some, OutputFirst, Verdict, verdict-number, VerdictFor}
+use Rattle.meaning.specs.Node.{ins, outs, Some, Verdict, verdict-number, VerdictFor}
 use Rattle.meaning.specs.Numbers.{property-refusal}
-use Rattle.meaning.specs.Matcher.{is-input, State, state-next, is-broken}
+use Rattle.meaning.specs.Matcher.{State, is-broken}
 use Rattle.meaning.proofs.Tests.{not-true}
-use Rattle.meaning.proofs.Pairs.{Bounds, good-bounds}
+use Rattle.meaning.proofs.Pairs.{good-bounds}
 use Rattle.meaning.proofs.Lists.{All, from-ins, from-outs}
 use Rattle.meaning.proofs.Channels.{In, Out, ins-in, outs-out}
 use Rattle.meaning.proofs.Facts.{explains-pairs, pairs-explain}
 use Rattle.meaning.proofs.Sets.{Matcher, along}
 use Rattle.meaning.proofs.Matching.{state-matcher}
-use Rattle.reasons.specs.Reasons.{gets-in, numbered}
-use Rattle.reasons.proofs.Search.{Fitting, Reach}
+use Rattle.reasons.proofs.Search.{Reach}
 use Rattle.reasons.proofs.Search
 use Rattle.reasons.proofs.Verdicts.{some-breaks, some-spares}
-use Rattle.property.specs.Meant.{meant, action-of}
+use Rattle.property.specs.Meant.{meant}
 use Rattle.property.specs.declared.Property.{Property}
-use Rattle.matcher.specs.Sets.{Fits}
-use Rattle.cuts.specs.Steps.{line-of}
 use Rattle.judged_rest.specs.declared.Reached.{Reached}
-use Rattle.judged_rest.specs.Lent.{Lines, is-output, stamp-at, line-in, count}
+use Rattle.judged_rest.specs.Lent.{Lines, line-in, count}
 use Rattle.judged_rest.specs.Judged.{judged}
-use Rattle.first_order.specs.Search.{next-from, kind-in, next-place, reaches, with-line, placed-next, choice, placed}
-use Rattle.first_order.proofs.NextPlace.{IsNext, is-next}
-use Rattle.first_order.proofs.Choices.{no-output, no-input, too-far, reached, not-reached}
-use Rattle.why.proofs.Left.{left, on-none, on-next}
+use Rattle.first_order.specs.Search.{reaches}
 use Rattle.why.proofs.Whole.{AllTaken}
 use Rattle.why.proofs.Rest.{waiting, judged-rest, waiting-rises}
-use Rattle.why.proofs.Channel.{channel, ins-left, outs-left, Only, moved-fits, only-next}
+use Rattle.why.proofs.Channel.{channel, ins-left, outs-left, Only}
 
 module _ (p : Property) (good : property-refusal (meant p) ≡ 0) (ls : Lines) (known : AllTaken (meant p) (line-in ls) (count ls)) (rise : StampsFrom 0 (first (line-in ls) (count ls))) where
   abbrev M : Matcher

@@ -8,23 +8,23 @@ use mathlib.Core.List.{List, [], _∷_, _++_, append-nil}
 use native.Mathlib.Omega.{arith}
 use native.Mathlib.Nat.{zero-add}
 use lib.ListN.{length}
-use lib.Dec.{leb, ltb}
+use lib.Dec.{ltb}
 use borrow.Author.Tests.{le-ltb}
 use Rattle.laws.specs.Places.{first}
 use Rattle.laws.proofs.Places.{first-snoc}
 use Rattle.meaning.specs.Limits.{last-stamp, most-open}
-use Rattle.meaning.specs.Words.{Action, Line, Run, StampsFrom}
+use Rattle.meaning.specs.Words.{Line, StampsFrom}
 use Rattle.meaning.specs.Words
 use Rattle.meaning.specs.Node.{ins, Breaks, Verdict, verdict-number, VerdictFor}
 use Rattle.meaning.specs.Numbers.{given, first-of, action-above, property-refusal}
 use Rattle.meaning.specs.Calls.{Call, is-open, count-open, open-at, stamp-refusal}
 use Rattle.meaning.specs.Matcher.{Lengths, State, is-broken}
 use Rattle.meaning.specs.Step.{Front, lengths, last-set, front-with, front-verdict}
-use Rattle.meaning.proofs.Lists.{All, done, also, all-append, all-of, ins-append, from-longer}
+use Rattle.meaning.proofs.Lists.{All, done, also, all-append, ins-append, from-longer}
 use Rattle.meaning.proofs.Sets.{Reading, along}
 use Rattle.meaning.proofs.Matching.{state-matcher}
 use Rattle.meaning.proofs.Lengths.{lengths-reading}
-use Rattle.reasons.proofs.Questions.{through, through-last, through-none, single, verdict-on, open-on}
+use Rattle.reasons.proofs.Questions.{through, through-last, single, verdict-on, open-on}
 use Rattle.property.specs.Meant.{meant}
 use Rattle.property.specs.declared.Property.{Property}
 use Rattle.matcher.specs.Sets.{set-of}
@@ -32,7 +32,7 @@ use Rattle.cuts.specs.Steps.{refusal-by}
 use Rattle.judged_rest.specs.declared.Reached.{Reached}
 use Rattle.judged_rest.specs.Lent.{Lines, is-output, line-in, count}
 use Rattle.judged_rest.specs.Judged.{Judged, waits, judged-line, turned, judged}
-use Rattle.why.proofs.Left.{left, left-next, left-zero}
+use Rattle.why.proofs.Left.{left, left-next}
 use Rattle.why.proofs.Whole.{AllTaken}
 use Rattle.why.proofs.Judgement.{open-cuts, says, line-then, line-taken}
 

@@ -2,10 +2,10 @@
 use Prim.Native.Nat.{ℕ, zero, suc, _+_, _*_, _-_, _≤_, _<_}
 use mathlib.Core.Path.{_≡_, refl, sym, ap, ap₂, _∙_, subst}
 use mathlib.Core.Logic.{_↔_}
-use mathlib.Core.Bool.{Bool, true, false, cond, not, true≢false}
-use mathlib.Core.List.{List, [], _∷_, _++_}
+use mathlib.Core.Bool.{Bool, true, false, not, true≢false}
+use mathlib.Core.List.{List, [], _∷_}
 use native.Mathlib.Omega.{arith}
-use lib.ListN.{length, getD, drop}
+use lib.ListN.{length, getD}
 use lib.Dec.{leb, ltb}
 use borrow.Author.Tests.{leb-true, leb-false, ltb-true, ltb-false}
 use borrow.Author.Tests as B
@@ -14,7 +14,7 @@ use Rattle.laws.proofs.Places.{first-same}
 use Rattle.meaning.specs.Words.{Line, StampsFrom}
 use Rattle.meaning.specs.Node.{OutputFirst}
 use Rattle.meaning.specs.Numbers.{property-refusal}
-use Rattle.meaning.specs.Matcher.{is-input, State, state-next, is-broken}
+use Rattle.meaning.specs.Matcher.{State, state-next, is-broken}
 use Rattle.meaning.proofs.Pairs.{good-bounds}
 use Rattle.meaning.proofs.Sets.{Matcher}
 use Rattle.meaning.proofs.Matching.{state-matcher}
@@ -26,7 +26,7 @@ use Rattle.cuts.specs.Steps.{line-of}
 use Rattle.judged_rest.specs.declared.Reached.{Reached}
 use Rattle.judged_rest.specs.Lent.{Lines, is-output, stamp-at, line-in, count}
 use Rattle.judged_rest.specs.Judged.{judged}
-use Rattle.first_order.specs.Search.{next-from, kind-in, next-place, reaches, with-line, placed-next, choice, placed}
+use Rattle.first_order.specs.Search.{next-from, kind-in, reaches, with-line, placed-next, choice, placed}
 use Rattle.first_order.proofs.NextPlace.{IsNext, is-next}
 use Rattle.first_order.proofs.Choices.{no-output, no-input, too-far, reached, not-reached}
 use Rattle.why.proofs.Left.{no-length, on-none, on-next}

@@ -1,31 +1,29 @@
 -- What is written into the lists is the first order of a sort, with its numbers and its earliest moments.
 use Prim.Native.Nat.{ℕ, zero, suc, _+_, _-_, _≤_, _<_, max}
-use mathlib.Core.Path.{_≡_, refl, sym, ap, ap₂, _∙_, subst}
-use mathlib.Core.Logic.{_↔_, _⊎_}
+use mathlib.Core.Path.{_≡_, refl, sym, ap, ap₂, _∙_}
 use mathlib.Core.Bool.{Bool, true, false, cond, not, _&&_, and-true, Bool·not-not}
 use mathlib.Core.List.{List, [], _∷_, _++_}
 use native.Mathlib.Omega.{arith}
 use lib.ListN.{length, getD, drop, length-append, length-drop, List·getD-append}
 use lib.Seq.{ext-getD, getD-append-add, getD-drop}
-use lib.Dec.{leb, ltb}
+use lib.Dec.{ltb}
 use lib.IntN.{ℤ, pos, _-ℤ_}
 use borrow.Author.Tests.{ltb-true, ltb-false, le-leb}
 use Rattle.laws.specs.Places.{first}
 use Rattle.laws.specs.Filled.{Filled}
-use Rattle.laws.proofs.Places.{length-first, first-snoc, getD-first, first-same}
-use Rattle.meaning.specs.Words.{Action, Line, Run}
+use Rattle.laws.proofs.Places.{length-first, first-snoc, getD-first}
+use Rattle.meaning.specs.Words.{Line}
 use Rattle.meaning.specs.Words
 use Rattle.meaning.proofs.Pairs.{low, earliest}
 use Rattle.reasons.specs.Reasons.{gets-in, goes-out, numbers-of, numbered}
-use Rattle.matcher.specs.Sets.{set-of}
 use Rattle.meaning.specs.Matcher.{is-input}
 use Rattle.property.specs.Meant.{meant, action-of}
 use Rattle.property.specs.declared.Property.{Property}
-use Rattle.judged_rest.specs.Lent.{Lines, is-output, stamp-at, line-in, count}
+use Rattle.judged_rest.specs.Lent.{Lines, is-output, stamp-at, line-in}
 use Rattle.why.specs.Why.{over}
 use Rattle.first_order.specs.Search.{kind-in}
-use Rattle.order_moments.specs.Moments.{low-at, late, moment-of, moment-at}
-use Rattle.why.proofs.Left.{left, on}
+use Rattle.order_moments.specs.Moments.{late, moment-at}
+use Rattle.why.proofs.Left.{left}
 use Rattle.why.proofs.Channel.{channel}
 
 -- ---- a list whose front was filled

@@ -1,23 +1,20 @@
 -- All lines of a run judged: the refusal is the one that a session would give, and where there is none the verdict is exact and the
 -- line the one after which it was first reached.
 use Prim.Native.Nat.{ℕ, zero, suc, _+_, _≤_, _<_}
-use mathlib.Core.Path.{_≡_, refl, sym, ap, ap₂, _∙_, subst}
-use mathlib.Core.Logic.{_⊎_, inl, inr}
-use mathlib.Core.Bool.{Bool, true, false, cond, not, _&&_}
+use mathlib.Core.Path.{_≡_, refl, sym, ap, _∙_, subst}
+use mathlib.Core.Bool.{Bool, true, false}
 use mathlib.Core.List.{List, [], _∷_, _++_, append-nil}
 use native.Mathlib.Omega.{arith}
-use lib.ListN.{length}
-use lib.Dec.{eqb, leb, ltb}
+use lib.Dec.{eqb, ltb}
 use borrow.Author.Tests.{eqb-true, eqb-false, ltb-false}
 use Rattle.laws.specs.Places.{first}
-use Rattle.laws.proofs.Places.{length-first, first-snoc, first-add}
+use Rattle.laws.proofs.Places.{first-snoc}
 use Rattle.meaning.specs.Limits.{last-stamp, most-open}
-use Rattle.meaning.specs.Words.{Line, Run, StampsFrom}
+use Rattle.meaning.specs.Words.{Line, Run}
 use Rattle.meaning.specs.Words
-use Rattle.meaning.specs.Node.{Breaks, Verdict, verdict-number, IsVerdict}
-use Rattle.meaning.specs.Numbers.{given, first-of, action-above, property-refusal}
-use Rattle.meaning.specs.Calls.{Call, Watch, fresh, refusal, taken, unless-refused, stamp-refusal, open-at, line-refusal}
-use Rattle.meaning.proofs.Refusals.{first-of-none, first-of-given, first-of-first, none-first, given-none}
+use Rattle.meaning.specs.Numbers.{first-of, action-above}
+use Rattle.meaning.specs.Calls.{Call, Watch, fresh, refusal, taken, stamp-refusal, open-at}
+use Rattle.meaning.proofs.Refusals.{first-of-none, first-of-first, none-first, given-none}
 use Rattle.meaning.proofs.Lists.{snoc-append}
 use Rattle.reasons.specs.Reasons.{lines-refusal}
 

@@ -1,9 +1,8 @@
 -- `first_order::order` meets its contract. The loop: what the first j lines of the order have reached, and their numbers.
 use Prim.Native.Nat.{ℕ, _-_, _<_}
-use mathlib.Core.Path.{_≡_, sym, subst}
-use mathlib.Core.List.{List}
+use mathlib.Core.Path.{_≡_, subst}
 use native.Mathlib.Omega.{arith}
-use lib.ListN.{length, length-set}
+use lib.ListN.{length}
 use borrow.Author.Needs.{needs}
 use Rattle.laws.specs.Filled.{Filled}
 use Rattle.judged_rest.specs.Lent.{Lines, lent}

@@ -1,5 +1,4 @@
 -- `first_order::write` meets its contract: the order, then its moments.
-use mathlib.Core.Path.{subst, sym}
 use native.Mathlib.Omega.{arith}
 use borrow.Author.Needs.{needs}
 use Rattle.first_order.proofs.Writing.{numbers-within, both-written}

@@ -1,12 +1,11 @@
 -- `judged_rest::judge` meets its contract. The loop: what the first k lines have come to.
 use Prim.Native.Nat.{ℕ, _-_, _≤_}
-use mathlib.Core.Path.{_≡_, refl, sym, ap, _∙_, subst}
+use mathlib.Core.Path.{_≡_, refl, ap, _∙_}
 use native.Mathlib.Omega.{arith}
 use lib.ListN.{length}
 use borrow.Author.Needs.{needs}
 use Rattle.session_record.specs.Record.{cuts-of}
 use Rattle.session_record.specs.Lent.{in-arrays, Ready}
-use Rattle.judged_rest.specs.declared.Reason.{Reason}
 use Rattle.judged_rest.specs.Lent.{lent}
 use Rattle.judged_rest.specs.Judged.{Judged, judged}
 use Rattle.judged_rest.proofs.Turns.{blank-ready, judged-start, judged-next}

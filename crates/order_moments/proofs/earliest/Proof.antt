@@ -1,6 +1,6 @@
 -- `first_order::earliest` meets its contract. The loop: the highest lower end so far, and the moments of the first j lines.
 use Prim.Native.Nat.{ℕ, _-_}
-use mathlib.Core.Path.{_≡_, refl, sym, subst}
+use mathlib.Core.Path.{_≡_, subst}
 use mathlib.Core.List.{[]}
 use native.Mathlib.Omega.{arith}
 use lib.ListN.{length, getD}

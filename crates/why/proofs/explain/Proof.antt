@@ -1,8 +1,7 @@
 -- `why::explain` meets its contract: refusal by refusal, and where there is none by what was judged and written.
 use Prim.Native.Nat.{_≤_}
 use mathlib.Core.Path.{_≡_, refl, sym, ap, _∙_, subst}
-use mathlib.Core.Bool.{Bool, true, false}
-use native.Mathlib.Omega.{arith}
+use mathlib.Core.Bool.{Bool, false}
 use lib.ListN.{length}
 use lib.Dec.{ltb}
 use borrow.Author.Needs.{needs}
@@ -12,7 +11,6 @@ use Rattle.meaning.proofs.Tests.{or-left, or-right}
 use Rattle.property.specs.Meant.{meant}
 use Rattle.matcher.specs.declared.Cut.{Cut}
 use Rattle.matcher.specs.Sets.{Fits}
-use Rattle.judged_rest.specs.declared.Reason.{Reason}
 use Rattle.judged_rest.specs.Lent.{Lines, lent}
 use Rattle.first_order.specs.Search.{Pair, pair}
 use Rattle.why.specs.Why.{shorter}
