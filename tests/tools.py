@@ -1067,9 +1067,32 @@ def rules_cited(folder):
         holds(f'docs/RULES.md cites {path}, which is not there', os.path.exists(os.path.join(TOP, path)))
 
 
+def edits_cited(folder):
+    """Each call of docs/PROMISES.md has two wrong programs, of which one or more are edits that are there; and every edit is named."""
+    text = contents(os.path.join(TOP, 'docs', 'PROMISES.md')).decode()
+    rows = re.findall('(?m)^[|] (`.*) [|]$', text)
+    holds(f'only {len(rows)} calls', len(rows) > 20)
+    for row in rows:
+        call, programs = row.split(' | ')[0], row.split(' | ')[-1]
+        own = 'stretch' if '(C)' in call else re.match('`([a-z_]+)::', call)[1]
+        kept, _, tried = programs.partition('*tried*')
+        groups = [group for group in kept.split(';') if group.strip()]
+        edits = [(re.search(r'\(`([a-z_]+)`\)', group), re.findall('`([a-z0-9_]+)`(?![)])', group)) for group in groups]
+        holds(f'{call}: no edit, or one wrong program only', edits and (tried.strip() or sum(len(names) for _, names in edits) > 1))
+        for crate, names in edits:
+            for name in names:
+                path = os.path.join('crates', crate[1] if crate else own, 'must-fail', name + '.edit')
+                holds(f'{call}: there is no {path}', os.path.exists(os.path.join(TOP, path)))
+    for crate in os.listdir(os.path.join(TOP, 'crates')):
+        edits = os.path.join(TOP, 'crates', crate, 'must-fail')
+        for name in os.listdir(edits) if os.path.isdir(edits) else ():
+            holds(f'docs/PROMISES.md does not name {crate}/{name}', f'`{name[:-len(".edit")]}`' in text)
+
+
 PARTS = [listing_status, listing_long, listing_lost_output, listing_slow_reader, listing_live, listing_leaves_input, listing_builds,
          listing_names, listing_names_lists, listing_names_builds, listing_names_live, listing_tap, listing_why, names_text,
-         names_output, pack_output, pack_text, pack_follow, pack_lost, pack_card, unpack_back, readme, rules_cited]
+         names_output, pack_output, pack_text, pack_follow, pack_lost, pack_card, unpack_back, readme, rules_cited,
+         edits_cited]
 
 
 def main(names):
