@@ -34,8 +34,8 @@ class Stand:
 
     def __init__(self, top):
         self.top = top
-        for name in ('.ci', 'docs', 'tests', 'bin', 'target'):
-            os.mkdir(os.path.join(top, name))
+        for name in ('.ci', 'docs', 'tests', 'bin', 'target/log'):
+            os.makedirs(os.path.join(top, name))
         with open(os.path.join(TOP, '.ci', 'run'), encoding='utf-8') as gate:
             text = gate.read()
         self.gate = os.path.join(top, '.ci', 'run')
@@ -163,7 +163,7 @@ def main():
         fails(f'{name} fails', lambda stand, name=name: stand.test(name, ['exit 1']), True)
     fails('a test is killed', lambda stand: stand.test('tests/why.py', ['kill -9 $$']), True)
     fails('two tests fail', lambda stand: [stand.test(name, ['exit 3']) for name in tests[:2]], True)
-    fails('the archive is not built', lambda stand: stand.rt(archive=1), True)
+    fails('the archive is not built', lambda stand: stand.rt(archive=1), True, said='libstretch.a')
     fails('the layout is not that of rt fmt', lambda stand: stand.rt(fmt=1), False)
     one_failed = '6 passed, 1 failed'
     fails('a crate fails', lambda stand: stand.rt([f'echo {one_failed}', 'exit 1']), False, said=f'\n{one_failed}\n')
