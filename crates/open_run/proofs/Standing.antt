@@ -1,17 +1,15 @@
 -- The run that is kept is the one that is open: what a record does to both.
-use Prim.Native.Nat.{ℕ, zero, suc, _+_, _-_, _^_, _≤_, _<_}
+use Prim.Native.Nat.{ℕ, zero, suc, _+_}
 use mathlib.Core.Path.{_≡_, refl, sym, ap, subst, _∙_}
 use mathlib.Core.Bool.{Bool, true, false, cond}
 use mathlib.Core.List.{List, [], _∷_, _++_, append-nil}
 use native.Mathlib.Omega.{arith}
-use lib.ListN.{length}
-use borrow.Author.Tests.{eq-eqb}
 use Rattle.meaning.specs.Words.{Line, Run}
 use Rattle.meaning.specs.Node.{Breaks}
 use Rattle.meaning.specs.Numbers.{property-refusal}
-use Rattle.meaning.specs.Calls.{Mark, Call, Watch, fresh, watched, beyond, with-line, refusal, taken, next}
+use Rattle.meaning.specs.Calls.{Mark, Call, Watch, fresh, beyond, with-line, refusal, unless-refused, taken, next}
 use Rattle.meaning.specs.Matcher.{Lengths}
-use Rattle.meaning.specs.Step.{Cuts, grown}
+use Rattle.meaning.specs.Step.{Cuts}
 use Rattle.meaning.proofs.Sets.{Reading}
 use Rattle.meaning.proofs.Lengths.{lengths-reading}
 use Rattle.meaning.proofs.Refusals.{unless-taken, unless-kept}
@@ -20,24 +18,27 @@ use Rattle.meaning.proofs.Calls.{Agrees, open-run, blind, grown-agrees, refusal
 use Rattle.property.specs.Meant.{meant}
 use Rattle.property.specs.declared.Property.{Property}
 use Rattle.record_form.specs.declared.RecordRead.{RecordRead}
-use Rattle.record_form.specs.Record.{record-size, record-answer, IsRead}
-use Rattle.trace_form.specs.ReadAs.{ReadAs, case-as, read-as}
-use Rattle.trace_form.proofs.ReadAs.{read-case}
-use Rattle.cuts.specs.Steps.{refusal-by}
+use Rattle.record_form.specs.declared.RecordRead.the-variants.{Input, Output, Gap, End, Refused}
+use Rattle.trace_form.specs.ReadAs.{ReadAs, case-as}
+use Rattle.cuts.specs.Steps.{line-of, refusal-by}
 use Rattle.session_record.specs.declared.Session.{Session}
 use Rattle.session_record.specs.declared.Answer.{Answer}
 use Rattle.session_record.specs.declared.Stepped.{Stepped}
-use Rattle.session_record.specs.Record.{latest-of, blind-of, cuts-of, out-of-range}
-use Rattle.session_record.specs.Step.{no-session, fresh-of, stepped-of, stepped-through}
-use Rattle.session_record.specs.Lent.{Ready, Advanced}
+use Rattle.session_record.specs.Record.{blind-of, cuts-of}
+use Rattle.session_record.specs.Step.{fresh-of, stepped-of, stepped-through}
+use Rattle.session_record.specs.Lent.{Ready}
 use Rattle.session_record.proofs.Range.{ranged}
-use Rattle.session_record.proofs.Steps.{answer-refusal, refusal-fits, fresh-refused}
+use Rattle.session_record.proofs.Steps.{answer-refusal, refusal-fits}
 use Rattle.session_record.proofs.Grown.{grown-stands}
-use Rattle.session_record.proofs.Running.{fresh-record, running-record, zeros-named}
+use Rattle.session_record.proofs.Running.{running-record}
+use Rattle.one_record.specs.Takes.{Takes}
+use Rattle.one_record.proofs.Takes.{end-same, refused-same, end-taken, refused-stops}
 use Rattle.walk.specs.declared.Did.{Did}
 use Rattle.walk.specs.declared.Did.the-variants.{Took, Ended, Not}
-use Rattle.walk.specs.Walk.{One, one-call, one-read}
-use Rattle.open_run.specs.Kept.{Lines, Keeps, seen, Stands, calls-as, did-as, Goes, Next, Open}
+use Rattle.walk.specs.Walk.{one-call, one-read}
+use Rattle.open_run.specs.declared.Outcome.{Outcome}
+use Rattle.open_run.specs.declared.Outcome.the-variants.{Line as NextLine, Other}
+use Rattle.open_run.specs.Kept.{Lines, Keeps, seen, Stands, line-outcome, outcome-of, calls-as, did-as, Goes}
 use Rattle.open_run.proofs.Keeping.{with-count, keeps-none}
 
 -- ---- one call more
@@ -82,7 +83,7 @@ module _ (p : Property) (good : property-refusal (meant p) ≡ 0) where
 
 -- ---- a record that is a call
 
-module _ (s : Session) (ready : Ready s) (c : Call) (a : Answer) (after : Session) (led : Advanced s c a after) (k : Lines) where
+module _ (s : Session) (ready : Ready s) (c : Call) (a : Answer) (after : Session) (led : Takes s (ReadAs.call c) a after) (k : Lines) where
   abbrev p : Property
   p = s .property
 
@@ -90,7 +91,7 @@ module _ (s : Session) (ready : Ready s) (c : Call) (a : Answer) (after : Sessio
   good = ranged s (ready .fits) .formed
 
   number : stepped-of s c .answer .refusal ≡ a .refusal
-  number = ap (λ (r : Stepped). r .answer .refusal) (led .stepped)
+  number = ap (λ (r : Stepped). r .answer .refusal) (led .taken)
 
   did-refused : (a .refusal ≡ 0 → ⊥) → Not (a .refusal) ≡ did-as (one-read s (ReadAs.call c))
   did-refused some = go (a .refusal) some number
@@ -103,15 +104,9 @@ module _ (s : Session) (ready : Ready s) (c : Call) (a : Answer) (after : Sessio
   did-taken none = unfold one-read in (sym (ap (λ (m : ℕ). did-as (one-call s c m)) (number ∙ none) ∙ unfold one-call in refl))
 
   module _ (calls : List Call) (h : Stands p calls s k) where
-    w : Watch
-    w = seen p calls
-
-    w′ : Watch
-    w′ = seen p (calls ++ c ∷ [])
-
     session-next : after ≡ stepped-through (fresh-of p .session) (calls ++ c ∷ [])
     session-next =
-        sym (ap (λ (r : Stepped). r .session) (led .stepped))
+        sym (ap (λ (r : Stepped). r .session) (led .taken))
         ∙ ap (λ (x : Session). stepped-of x c .session) (h .session)
         ∙ sym (through-last (fresh-of p .session) calls c)
 
@@ -137,7 +132,7 @@ module _ (s : Session) (ready : Ready s) (c : Call) (a : Answer) (after : Sessio
     blind-next = ap blind-of session-next ∙ blind-same p good (agrees p good (calls ++ c ∷ []))
 
   -- refused, nothing changes
-  pub call-refused : (a .refusal ≡ 0 → ⊥) → Goes s k (ReadAs.call c) (Not (a .refusal)) after k
+  call-refused : (a .refusal ≡ 0 → ⊥) → Goes s k (ReadAs.call c) (Not (a .refusal)) after k
   call-refused some =
       record {
         did-is = did-refused some;
@@ -149,7 +144,7 @@ module _ (s : Session) (ready : Ready s) (c : Call) (a : Answer) (after : Sessio
       }
 
   -- taken, with no run open after it
-  pub call-closed : a .refusal ≡ 0 → blind-of after ≡ true → Goes s k (ReadAs.call c) Took after (with-count k 0)
+  call-closed : a .refusal ≡ 0 → blind-of after ≡ true → Goes s k (ReadAs.call c) Took after (with-count k 0)
   call-closed none closed =
       record {
         did-is = did-taken none;
@@ -167,7 +162,7 @@ module _ (s : Session) (ready : Ready s) (c : Call) (a : Answer) (after : Sessio
       }
 
 -- a gap mark that is taken
-pub mark-taken : (s : Session) (ready : Ready s) (g : Mark) (a : Answer) (after : Session) (led : Advanced s (Call.mark g) a after) (k : Lines)
+mark-taken : (s : Session) (ready : Ready s) (g : Mark) (a : Answer) (after : Session) (led : Takes s (ReadAs.call (Call.mark g)) a after) (k : Lines)
     → a .refusal ≡ 0 → Goes s k (ReadAs.call (Call.mark g)) Took after (with-count k 0)
 mark-taken s ready g a after led k none =
     record {
@@ -184,7 +179,7 @@ mark-taken s ready g a after led k none =
     }
 
 -- a line that is taken, with a run open after it
-module _ (s : Session) (ready : Ready s) (l : Line) (a : Answer) (after : Session) (led : Advanced s (Call.line l) a after) (k k′ : Lines) where
+module _ (s : Session) (ready : Ready s) (l : Line) (a : Answer) (after : Session) (led : Takes s (ReadAs.call (Call.line l)) a after) (k k′ : Lines) where
   more-run : (calls : List Call) (h : Stands (s .property) calls s k) → a .refusal ≡ 0 → blind-of after ≡ false
       → seen (s .property) (calls ++ Call.line l ∷ []) .run ≡ seen (s .property) calls .run ++ l ∷ []
   more-run calls h none opened =
@@ -194,7 +189,7 @@ module _ (s : Session) (ready : Ready s) (l : Line) (a : Answer) (after : Sessio
       ∙ last-line q (ranged s (ready .fits) .formed) (agrees q (ranged s (ready .fits) .formed) calls) l
       (ap (λ (x : Watch). x .is-blind) (sym e) ∙ sym (blind-next s ready (Call.line l) a after led k calls h) ∙ opened)
 
-  pub line-taken : a .refusal ≡ 0 → blind-of after ≡ false → ((run : Run) → Keeps run k → Keeps (run ++ l ∷ []) k′) → k′ .count ≡ k .count + 1
+  line-taken : a .refusal ≡ 0 → blind-of after ≡ false → ((run : Run) → Keeps run k → Keeps (run ++ l ∷ []) k′) → k′ .count ≡ k .count + 1
       → Goes s k (ReadAs.call (Call.line l)) Took after k′
   line-taken none opened more counted =
       record {
@@ -209,23 +204,59 @@ module _ (s : Session) (ready : Ready s) (l : Line) (a : Answer) (after : Sessio
         few = omega arith;
       }
 
--- ---- a record that is no call
-
-module _ (s : Session) (ready : Ready s) (k : Lines) where
-  same : (calls : List Call) → Stands (s .property) calls s k → Stands (s .property) (calls ++ []) s k
-  same calls h = subst (λ (cs : List Call). Stands (s .property) cs s k) (sym (append-nil calls)) h
-
-  pub record-ended : Goes s k ReadAs.end Ended s k
-  unfolding one-read
-  record-ended = record { did-is = refl; stands = same; ready = ready; few = omega arith }
-
-  pub record-refused : (n : ℕ) → Goes s k (ReadAs.refused n) (Not n) s k
-  unfolding one-read
-  record-refused n = record { did-is = refl; stands = same; ready = ready; few = omega arith }
-
 -- ---- what was read
 
--- an arm of a `match` knows the case
-pub case-known : {s : Session} {k : Lines} {x y : RecordRead} {did : Did} {after : Session} {k′ : Lines} → x ≡ y → Goes s k (case-as y) did after k′
-    → Goes s k (case-as x) did after k′
-case-known {s} {k} {did = did} {after = after} {k′ = k′} e h = subst (λ (r : RecordRead). Goes s k (case-as r) did after k′) (sym e) h
+-- An outcome leads here, once its line is kept.
+abbrev pub Leads : Session → Lines → ReadAs → Session → Outcome → Type 0
+Leads s k x after (NextLine output action stamp) =
+    (k′ : Lines) → ((run : Run) → Keeps run k → Keeps (run ++ line-of output action stamp ∷ []) k′) → k′ .count ≡ k .count + 1 → Goes s k x Took after k′
+Leads s k x after (Other did count) = Goes s k x did after (with-count k count)
+
+module _ (s : Session) (ready : Ready s) (a : Answer) (after : Session) (k : Lines) where
+  -- a stop at a refusal
+  abbrev stop : ℕ → Outcome
+  stop n = Other (Not n) (k .count)
+
+  -- a call, by what it comes to if it is taken
+  called : (c : Call) → Takes s (ReadAs.call c) a after → (o : Outcome) → (a .refusal ≡ 0 → Leads s k (ReadAs.call c) after o)
+      → Leads s k (ReadAs.call c) after (unless-refused (a .refusal) o (stop (a .refusal)))
+  called c led o taken = go (a .refusal) refl
+    where
+      go : (n : ℕ) → a .refusal ≡ n → Leads s k (ReadAs.call c) after (unless-refused n o (stop n))
+      go zero e = taken e
+      go (suc n) e = subst (λ (m : ℕ). Goes s k (ReadAs.call c) (Not m) after k) e (call-refused s ready c a after led k (λ z. omega arith))
+
+  line-leads : (output : Bool) (action stamp : ℕ) → Takes s (ReadAs.call (Call.line (line-of output action stamp))) a after → a .refusal ≡ 0
+      → Leads s k (ReadAs.call (Call.line (line-of output action stamp))) after (line-outcome (blind-of after) output action stamp)
+  line-leads output action stamp led none = go (blind-of after) refl
+    where
+      l : Line
+      l = line-of output action stamp
+
+      go : (b : Bool) → blind-of after ≡ b → Leads s k (ReadAs.call (Call.line l)) after (line-outcome b output action stamp)
+      go true e = call-closed s ready (Call.line l) a after led k none e
+      go false e = λ k′. line-taken s ready l a after led k k′ none e
+
+  -- what is no call leaves the session as it was, and the run
+  left : (x : ReadAs) (did : Did) → after ≡ s → Ready after → calls-as x ≡ [] → did ≡ did-as (one-read s x) → Goes s k x did after k
+  left x did same next-ready none is =
+      record {
+        did-is = is;
+        stands =
+            λ calls h.
+            subst (λ (cs : List Call). Stands (s .property) cs after k) (sym (ap (λ (l : List Call). calls ++ l) none ∙ append-nil calls))
+            (subst (λ (y : Session). Stands (s .property) calls y k) (sym same) h);
+        ready = next-ready;
+        few = omega arith;
+      }
+
+  -- what was read leads to what it comes to
+  pub read-leads : (read : RecordRead) → Takes s (case-as read) a after → Leads s k (case-as read) after (outcome-of (a .refusal) (blind-of after) (k .count) read)
+  unfolding one-read
+  read-leads (Input action stamp) led = called _ led _ (line-leads false action stamp led)
+  read-leads (Output action stamp) led = called _ led _ (line-leads true action stamp led)
+  read-leads (Gap lost stamp) led = called _ led _ (mark-taken s ready _ a after led k)
+  read-leads (End stamp) led =
+      subst (Leads s k ReadAs.end after) (sym (end-taken stop (Other Ended (k .count)) led)) (left ReadAs.end Ended (end-same led) (led .ready) refl refl)
+  read-leads (Refused n) led =
+      subst (Leads s k (ReadAs.refused n) after) (sym (refused-stops stop n led)) (left (ReadAs.refused n) (Not n) (refused-same led) (led .ready) refl refl)

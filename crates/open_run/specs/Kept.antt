@@ -1,14 +1,16 @@
 -- Document 02, CR 6: "for the run open at the end record". The run that is kept is the one that the calls so far have left open.
 use Prim.Native.Nat.{ℕ, _+_, _≤_}
 use mathlib.Core.Path.{_≡_}
-use mathlib.Core.Bool.{Bool, false}
+use mathlib.Core.Bool.{Bool, true, false, cond}
 use mathlib.Core.List.{List, [], _∷_, _++_}
 use lib.ListN.{length, getD}
 use Rattle.laws.specs.Places.{first}
 use Rattle.meaning.specs.Words.{Line, Run}
-use Rattle.meaning.specs.Calls.{Call, Watch, fresh, watched}
+use Rattle.meaning.specs.Calls.{Call, Watch, fresh, watched, unless-refused}
 use Rattle.property.specs.Meant.{meant}
 use Rattle.property.specs.declared.Property.{Property}
+use Rattle.record_form.specs.declared.RecordRead.{RecordRead}
+use Rattle.record_form.specs.declared.RecordRead.the-variants.{Input, Output, Gap, End, Refused}
 use Rattle.record_form.specs.Record.{record-size, record-answer}
 use Rattle.trace_form.specs.ReadAs.{ReadAs, read-as}
 use Rattle.cuts.specs.Steps.{line-of}
@@ -20,6 +22,8 @@ use Rattle.reasons.specs.Reasons.{most-lines}
 use Rattle.walk.specs.declared.Did.{Did}
 use Rattle.walk.specs.declared.Did.the-variants.{Took, Ended, Not}
 use Rattle.walk.specs.Walk.{One, one-read}
+use Rattle.open_run.specs.declared.Outcome.{Outcome}
+use Rattle.open_run.specs.declared.Outcome.the-variants.{Line as NextLine, Other}
 
 -- What is kept: three arrays of places, and the number of lines.
 pub record Lines : Type 0 where
@@ -50,6 +54,22 @@ seen p calls = watched (meant p) fresh calls
 pub record Stands (p : Property) (calls : List Call) (s : Session) (k : Lines) : Type 0 where
   pub session : s ≡ stepped-through (fresh-of p .session) calls
   pub keeps : Keeps (seen p calls .run) k
+
+-- A line that is taken: it is to be kept, unless no run is open after it.
+abbrev pub line-outcome : (blind output : Bool) (action stamp : ℕ) → Outcome
+line-outcome blind output action stamp = cond blind (Other Took 0) (NextLine output action stamp)
+
+-- What a record comes to that the session has not refused, as it was read: `blind` is after it, `count` before it.
+abbrev pub kind-outcome : (blind : Bool) (count : ℕ) → RecordRead → Outcome
+kind-outcome blind count (Input action stamp) = line-outcome blind false action stamp
+kind-outcome blind count (Output action stamp) = line-outcome blind true action stamp
+kind-outcome blind count (Gap lost stamp) = Other Took 0
+kind-outcome blind count (End stamp) = Other Ended count
+kind-outcome blind count (Refused number) = Other (Not number) count
+
+-- By the number that the session has refused it with, if it has.
+abbrev pub outcome-of : (refusal : ℕ) (blind : Bool) (count : ℕ) → RecordRead → Outcome
+outcome-of refusal blind count read = unless-refused refusal (kind-outcome blind count read) (Other (Not refusal) count)
 
 -- The calls of a record: it is one, or none.
 abbrev pub calls-as : ReadAs → List Call

@@ -1,14 +1,13 @@
 // The run of a log that is open: its lines, kept in lent arrays beside those of the session.
-ghost use Prim.Native.Nat.{ℕ, _+_, _^_, _<_};
-ghost use mathlib.Core.Bool.{Bool};
-ghost use mathlib.Core.List.{List, [], _∷_, _++_};
+ghost use Prim.Native.Nat.{_+_, _^_, _<_};
+ghost use mathlib.Core.Path.{_≡_};
+ghost use mathlib.Core.List.{[], _∷_, _++_};
 ghost use Rattle.meaning.specs.Words.{Run};
-ghost use Rattle.meaning.specs.Calls.{Call, mark-at};
-ghost use Rattle.trace_form.specs.ReadAs.{ReadAs, case-as};
+ghost use Rattle.trace_form.specs.ReadAs.{case-as};
 ghost use Rattle.table.specs.Table.{IsTable};
 ghost use Rattle.cuts.specs.Steps.{line-of};
 ghost use Rattle.session_record.specs.Lent.{in-arrays, Ready};
-ghost use Rattle.open_run.specs.Kept.{in-lines, Keeps, Goes};
+ghost use Rattle.open_run.specs.Kept.{in-lines, Keeps, line-outcome, outcome-of, Goes};
 use held::Status;
 use limits::MOST_LINES;
 use property::Property;
@@ -44,99 +43,37 @@ fn keep(
     stamps[place] = stamp;
 }
 
-// A line. It is the next of the run that is open after it; while blind there was none, and it begins one or is skipped.
-fn line(
-    p: Property,
-    table: &[u8; 4257],
-    held: &mut [u64; 64],
-    acts: &mut [u8; 64],
-    masks: &mut [u64; 65],
-    marks: &mut [u64; 65],
-    status: Status,
-    outputs: &mut [bool; 256],
-    actions: &mut [u8; 256],
-    stamps: &mut [u64; 256],
-    count: usize,
-    output: bool,
-    action: u8,
-    stamp: u64,
-) -> Turn
-    requires { ⌜ Ready (in-arrays p (now held) (now acts) (now masks) (now marks) status) × IsTable p (now table) × (count + 1 < 2 ^ 64) ⌝ }
-    ensures { λ r. ⌜ Goes (in-arrays p (now (held .entry)) (now (acts .entry)) (now (masks .entry)) (now (marks .entry)) status)
-        (in-lines (now (outputs .entry)) (now (actions .entry)) (now (stamps .entry)) count)
-        (ReadAs.call (Call.line (line-of output action stamp))) (r .did)
-        (in-arrays p (now (held .exit)) (now (acts .exit)) (now (masks .exit)) (now (marks .exit)) (r .status))
-        (in-lines (now (outputs .exit)) (now (actions .exit)) (now (stamps .exit)) (r .count)) ⌝ }
-{
-    let told = in_place::line(
-        p,
-        table,
-        held,
-        acts,
-        masks,
-        marks,
-        status,
-        output,
-        action,
-        stamp,
-    );
-    let answer = told.answer;
-    let next = told.status;
-    if answer.refusal != 0 {
-        return Turn {
-            did: Did::Not(answer.refusal),
-            status: next,
-            count: count,
-        };
-    }
-    if next.blind {
-        return Turn {
-            did: Did::Took,
-            status: next,
-            count: 0,
-        };
-    }
-    keep(outputs, actions, stamps, count, output, action, stamp);
-    Turn {
-        did: Did::Took,
-        status: next,
-        count: count + 1,
-    }
+// What a record comes to.
+enum Outcome {
+    // A line to be kept: is it an output, its action and its stamp.
+    Line(bool, u8, u64),
+    // None: what the record did, and the number of lines of the run that is open after it.
+    Other(Did, usize),
 }
 
-// A gap mark, which closes the run.
-fn mark(
-    p: Property,
-    held: &mut [u64; 64],
-    acts: &mut [u8; 64],
-    masks: &mut [u64; 65],
-    marks: &mut [u64; 65],
-    status: Status,
-    count: usize,
-    lost: u8,
-    stamp: u64,
-) -> Turn
-    requires { ⌜ Ready (in-arrays p (now held) (now acts) (now masks) (now marks) status) ⌝ }
-    ensures { λ r. ⌜ ((outputs : List Bool) (actions stamps : List ℕ)
-        → Goes (in-arrays p (now (held .entry)) (now (acts .entry)) (now (masks .entry)) (now (marks .entry)) status)
-        (in-lines outputs actions stamps count) (ReadAs.call (mark-at lost stamp)) (r .did)
-        (in-arrays p (now (held .exit)) (now (acts .exit)) (now (masks .exit)) (now (marks .exit)) (r .status))
-        (in-lines outputs actions stamps (r .count))) ⌝ }
+// A line that is taken. It is the next of the run that is open after it; while blind there was none, and it begins one or is skipped.
+fn line(blind: bool, output: bool, action: u8, stamp: u64) -> Outcome
+    ensures { λ r. ⌜ r ≡ line-outcome blind output action stamp ⌝ }
 {
-    let told = gap_mark::mark(p, held, acts, masks, marks, status, lost, stamp);
-    let answer = told.answer;
-    let next = told.status;
-    if answer.refusal != 0 {
-        return Turn {
-            did: Did::Not(answer.refusal),
-            status: next,
-            count: count,
-        };
+    if blind {
+        return Outcome::Other(Did::Took, 0);
     }
-    Turn {
-        did: Did::Took,
-        status: next,
-        count: 0,
+    Outcome::Line(output, action, stamp)
+}
+
+// A record as it was read, with the number of the session's refusal or 0; `blind` is after it. A gap mark closes the run.
+fn comes_to(refusal: u64, blind: bool, count: usize, read: RecordRead) -> Outcome
+    ensures { λ r. ⌜ r ≡ outcome-of refusal blind count read ⌝ }
+{
+    if refusal != 0 {
+        return Outcome::Other(Did::Not(refusal), count);
+    }
+    match read {
+        RecordRead::Input(action, stamp) => line(blind, false, action, stamp),
+        RecordRead::Output(action, stamp) => line(blind, true, action, stamp),
+        RecordRead::Gap(_, _) => Outcome::Other(Did::Took, 0),
+        RecordRead::End(_) => Outcome::Other(Did::Ended, count),
+        RecordRead::Refused(number) => Outcome::Other(Did::Not(number), count),
     }
 }
 
@@ -161,51 +98,23 @@ pub fn take(
         (in-arrays p (now (held .exit)) (now (acts .exit)) (now (masks .exit)) (now (marks .exit)) (r .status))
         (in-lines (now (outputs .exit)) (now (actions .exit)) (now (stamps .exit)) (r .count)) ⌝ }
 {
-    match read {
-        RecordRead::Input(action, stamp) => line(
-            p,
-            table,
-            held,
-            acts,
-            masks,
-            marks,
-            status,
-            outputs,
-            actions,
-            stamps,
-            count,
-            false,
-            action,
-            stamp,
-        ),
-        RecordRead::Output(action, stamp) => line(
-            p,
-            table,
-            held,
-            acts,
-            masks,
-            marks,
-            status,
-            outputs,
-            actions,
-            stamps,
-            count,
-            true,
-            action,
-            stamp,
-        ),
-        RecordRead::Gap(lost, stamp) => {
-            mark(p, held, acts, masks, marks, status, count, lost, stamp)
+    let told = one_record::take(p, table, held, acts, masks, marks, status, read);
+    let answer = told.answer;
+    let next = told.status;
+    let came = comes_to(answer.refusal, next.blind, count, read);
+    match came {
+        Outcome::Line(output, action, stamp) => {
+            keep(outputs, actions, stamps, count, output, action, stamp);
+            Turn {
+                did: Did::Took,
+                status: next,
+                count: count + 1,
+            }
         }
-        RecordRead::End(_) => Turn {
-            did: Did::Ended,
-            status: status,
-            count: count,
-        },
-        RecordRead::Refused(number) => Turn {
-            did: Did::Not(number),
-            status: status,
-            count: count,
+        Outcome::Other(did, after) => Turn {
+            did: did,
+            status: next,
+            count: after,
         },
     }
 }

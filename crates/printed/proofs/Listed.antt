@@ -8,16 +8,18 @@ use Rattle.property.specs.Meant.{action-of}
 use Rattle.record_form.specs.Record.{Reader, ReadBy, gap}
 use Rattle.trace_form.specs.ReadAs.{ReadAs, read-as, case-as}
 use Rattle.record_form.specs.declared.RecordRead.{RecordRead}
+use Rattle.record_form.specs.declared.RecordRead.the-variants.{Input, Output, Gap, End, Refused}
 use Rattle.trace_form.proofs.ReadAs.{read-case}
 use Rattle.held.specs.declared.Status.{Status}
 use Rattle.cuts.specs.Arrays.{number-of}
 use Rattle.cuts.specs.Steps.{line-of}
 use Rattle.session_record.specs.declared.Session.{Session}
 use Rattle.session_record.specs.declared.Stepped.{Stepped}
-use Rattle.session_record.specs.declared.Told.{Told}
+use Rattle.session_record.specs.declared.Answer.{Answer}
 use Rattle.session_record.specs.Record.{latest-of, out-of-range}
 use Rattle.session_record.specs.Step.{stepped-of}
-use Rattle.session_record.specs.Lent.{Ready, Advanced}
+use Rattle.one_record.specs.Takes.{Takes}
+use Rattle.one_record.proofs.Takes.{end-same, refused-same, end-taken, refused-stops}
 use Rattle.walk.specs.Walk.{One, one-call, try-call, one-read}
 use Rattle.walk.proofs.Dids.{refused-stays}
 use Rattle.line_text.specs.Text.{text-of}
@@ -25,7 +27,7 @@ use Rattle.printout.specs.Text.{line-text, end-text, stop-text}
 use Rattle.printed.specs.declared.Printed.{Printed}
 use Rattle.printed.specs.declared.lent.Added.{Added}
 use Rattle.printed.specs.Printed.{one-after, kind-of, call-text, last-line, by-one, printed-by, opening-text}
-use Rattle.printed.specs.Lent.{last-added, call-added, in-session, Adds}
+use Rattle.printed.specs.Lent.{next-added, last-added, kind-added, added-of, in-session, Adds}
 use Rattle.printed.proofs.Standing.{AsAnswered, line-answered, AsBlind, mark-blind}
 
 -- ---- refusal 10 first
@@ -59,7 +61,7 @@ pub stop-opens : (n : ℕ) → (n ≡ 0 → ⊥) → text-of (stop-text 0 n) ≡
 stop-opens zero h = absurd (h refl)
 stop-opens (suc n) h = refl
 
--- ---- a call
+-- ---- a record
 
 kind-same : (output : Bool) (action : ℕ) → cond output 1 0 ≡ kind-of (action-of output action)
 kind-same true action = refl
@@ -69,97 +71,92 @@ number-same : (output : Bool) (action : ℕ) → action ≡ number-of (action-of
 number-same true action = refl
 number-same false action = refl
 
-added-status : (told : Told) (count : ℕ) (line : List ℕ) → call-added told count line .status ≡ told .status
-added-status told count line = go (told .answer .refusal)
+added-status : (a : Answer) (status : Status) (count : ℕ) (read : RecordRead) → added-of a status count read .status ≡ status
+added-status a status count read = go (a .refusal) read
   where
-    go : (n : ℕ)
-        → unless-refused {A = Added} n (record { text = text-of line; status = told .status; count = one-after count; more = true })
-        (last-added (told .status) count (stop-text count n)) .status ≡ told .status
-    go zero = refl
-    go (suc n) = refl
+    go : (n : ℕ) (x : RecordRead) → unless-refused {A = Added} n (kind-added a status count x) (last-added status count (stop-text count n)) .status ≡ status
+    go zero (Input action stamp) = refl
+    go zero (Output action stamp) = refl
+    go zero (Gap lost stamp) = refl
+    go zero (End stamp) = refl
+    go zero (Refused number) = refl
+    go (suc n) x = refl
 
-module _ (s : Session) (count : ℕ) (x : ReadAs) where
-  -- a record that is a call, by the line that is printed if it is taken; `made` is the session of the arrays after it
-  call-adds : (c : Call) → x ≡ ReadAs.call c → (told : Told) (made : Status → Session) (line : List ℕ) → Advanced s c (told .answer) (made (told .status))
+module _ (s : Session) (count : ℕ) (a : Answer) (status : Status) (after : Session) where
+  -- the last line at a refusal
+  abbrev stop : ℕ → Added
+  stop n = last-added status count (stop-text count n)
+
+  -- a record that is a call, by the line that is printed if it is taken
+  call-listed : (c : Call) → Takes s (ReadAs.call c) a after → (line : List ℕ)
       → (stepped-of s c .answer .refusal ≡ 0 → line ≡ call-text (one-after count) c (stepped-of s c .session))
-      → (a : Added) → a ≡ call-added told count line → Adds s count x a (made (a .status))
-  call-adds c k told made line led shows a is =
-      subst (λ (b : Added). Adds s count x b (made (b .status))) (sym is)
-      (subst (λ (t : Status). Adds s count x (call-added told count line) (made t)) (sym (added-status told count line))
-      (record {
-        listed = ap (by-one s count) (ap (one-read s) k ∙ tried) ∙ go (stepped-of s c .answer .refusal) refl ∙ ap (λ (n : ℕ). in-session (added n) after) number;
-        ready = led .ready;
-      }))
+      → by-one s count (one-read s (ReadAs.call c)) ≡ in-session (unless-refused (a .refusal) (next-added status count line) (stop (a .refusal))) after
+  call-listed c led line shows = ap (by-one s count) tried ∙ go (stepped-of s c .answer .refusal) refl ∙ ap (λ (n : ℕ). in-session (added n) after) number
     where
-      after : Session
-      after = made (told .status)
-
       tried : one-read s (ReadAs.call c) ≡ try-call s c
       tried = unfold one-read in refl
 
-      number : stepped-of s c .answer .refusal ≡ told .answer .refusal
-      number = ap (λ (y : Stepped). y .answer .refusal) (led .stepped)
+      number : stepped-of s c .answer .refusal ≡ a .refusal
+      number = ap (λ (y : Stepped). y .answer .refusal) (led .taken)
 
       same : stepped-of s c .session ≡ after
-      same = ap (λ (y : Stepped). y .session) (led .stepped)
+      same = ap (λ (y : Stepped). y .session) (led .taken)
 
       added : ℕ → Added
-      added n = unless-refused n (record { text = text-of line; status = told .status; count = one-after count; more = true }) (last-added (told .status) count (stop-text count n))
+      added n = unless-refused n (next-added status count line) (stop n)
 
       go : (n : ℕ) → stepped-of s c .answer .refusal ≡ n → by-one s count (one-call s c n) ≡ in-session (added n) after
       go zero z = unfold one-call by-one in (λ i. record { text = text-of (sym (shows z) i); session = same i; count = one-after count; more = true })
       go (suc n) z = unfold one-call by-one in (ap (λ (y : Session). last-line y count (stop-text count (suc n))) (sym (refused-stays s c n z) ∙ same))
 
-  pub line-adds : (output : Bool) (action stamp : ℕ) → x ≡ ReadAs.call (Call.line (line-of output action stamp))
-      → (told : Told) (made : Status → Session) → Advanced s (Call.line (line-of output action stamp)) (told .answer) (made (told .status))
-      → (a : Added) → a ≡ call-added told count (line-text (one-after count) (cond output 1 0) action stamp (told .answer .verdict) (told .answer .open_count))
-      → Adds s count x a (made (a .status))
-  line-adds output action stamp k told made led = call-adds c k told made _ led shows
+  line-listed : (output : Bool) (action stamp : ℕ) → Takes s (ReadAs.call (Call.line (line-of output action stamp))) a after
+      → by-one s count (one-read s (ReadAs.call (Call.line (line-of output action stamp))))
+      ≡ in-session (unless-refused (a .refusal) (next-added status count (line-text (one-after count) (cond output 1 0) action stamp (a .verdict) (a .open_count))) (stop (a .refusal))) after
+  line-listed output action stamp led = call-listed c led _ (λ z. shown (line-answered s (line-of output action stamp) z))
     where
       c : Call
       c = Call.line (line-of output action stamp)
 
-      shows : stepped-of s c .answer .refusal ≡ 0
-          → line-text (one-after count) (cond output 1 0) action stamp (told .answer .verdict) (told .answer .open_count) ≡ call-text (one-after count) c (stepped-of s c .session)
-      shows z = shown (line-answered s (line-of output action stamp) z)
-        where
-          shown : AsAnswered (stepped-of s c)
-              → line-text (one-after count) (cond output 1 0) action stamp (told .answer .verdict) (told .answer .open_count) ≡ call-text (one-after count) c (stepped-of s c .session)
-          shown stands =
-              unfold call-text in
-              (λ i. line-text (one-after count) (kind-same output action i) (number-same output action i) stamp
-              ((ap (λ (y : Stepped). y .answer .verdict) (sym (led .stepped)) ∙ stands .verdict) i)
-              ((ap (λ (y : Stepped). y .answer .open_count) (sym (led .stepped)) ∙ stands .counted) i))
+      shown : AsAnswered (stepped-of s c)
+          → line-text (one-after count) (cond output 1 0) action stamp (a .verdict) (a .open_count) ≡ call-text (one-after count) c (stepped-of s c .session)
+      shown stands =
+          unfold call-text in
+          (λ i. line-text (one-after count) (kind-same output action i) (number-same output action i) stamp
+          ((ap (λ (y : Stepped). y .answer .verdict) (sym (led .taken)) ∙ stands .verdict) i)
+          ((ap (λ (y : Stepped). y .answer .open_count) (sym (led .taken)) ∙ stands .counted) i))
 
-  pub mark-adds : (lost stamp : ℕ) → x ≡ ReadAs.call (mark-at lost stamp)
-      → (told : Told) (made : Status → Session) → Advanced s (mark-at lost stamp) (told .answer) (made (told .status))
-      → (a : Added) → a ≡ call-added told count (line-text (one-after count) gap lost stamp 3 0) → Adds s count x a (made (a .status))
-  mark-adds lost stamp k told made led = call-adds (mark-at lost stamp) k told made _ led shows
-    where
-      shows : stepped-of s (mark-at lost stamp) .answer .refusal ≡ 0
-          → line-text (one-after count) gap lost stamp 3 0 ≡ call-text (one-after count) (mark-at lost stamp) (stepped-of s (mark-at lost stamp) .session)
-      shows z =
-          let stands : AsBlind (stepped-of s (mark-at lost stamp) .session) = mark-blind s (record { lost = lost; stamp = stamp }) z in
-          unfold call-text in (λ i. line-text (one-after count) gap lost stamp (stands .verdict i) (stands .counted i))
+  mark-shown : (lost stamp : ℕ) → stepped-of s (mark-at lost stamp) .answer .refusal ≡ 0
+      → line-text (one-after count) gap lost stamp 3 0 ≡ call-text (one-after count) (mark-at lost stamp) (stepped-of s (mark-at lost stamp) .session)
+  mark-shown lost stamp z =
+      let stands : AsBlind (stepped-of s (mark-at lost stamp) .session) = mark-blind s (record { lost = lost; stamp = stamp }) z in
+      unfold call-text in (λ i. line-text (one-after count) gap lost stamp (stands .verdict i) (stands .counted i))
 
-  -- ---- the last line
+  end-last : by-one s count (one-read s ReadAs.end) ≡ last-line s count (end-text count)
+  unfolding one-read by-one
+  end-last = refl
 
-  last-adds : Ready s → (made : Status → Session) → made (s .shared .status) ≡ s → (line : List ℕ) → by-one s count (one-read s x) ≡ last-line s count line
-      → (a : Added) → a ≡ last-added (s .shared .status) count line → Adds s count x a (made (a .status))
-  last-adds ready made own line e a is =
-      subst (λ (b : Added). Adds s count x b (made (b .status))) (sym is)
-      (subst (Adds s count x (last-added (s .shared .status) count line)) (sym own) (record { listed = e; ready = ready }))
+  refused-last : (n : ℕ) → by-one s count (one-read s (ReadAs.refused n)) ≡ last-line s count (stop-text count n)
+  unfolding one-read by-one
+  refused-last n = refl
 
-  pub end-adds : Ready s → (made : Status → Session) → made (s .shared .status) ≡ s → x ≡ ReadAs.end
-      → (a : Added) → a ≡ last-added (s .shared .status) count (end-text count) → Adds s count x a (made (a .status))
-  end-adds ready made own e = last-adds ready made own (end-text count) (ap (λ (y : ReadAs). by-one s count (one-read s y)) e ∙ shown)
-    where
-      shown : by-one s count (one-read s ReadAs.end) ≡ last-line s count (end-text count)
-      shown = unfold one-read by-one in refl
+  -- what was read, kind by kind
+  listed : (read : RecordRead) → Takes s (case-as read) a after → by-one s count (one-read s (case-as read)) ≡ in-session (added-of a status count read) after
+  listed (Input action stamp) led = line-listed false action stamp led
+  listed (Output action stamp) led = line-listed true action stamp led
+  listed (Gap lost stamp) led = call-listed (mark-at lost stamp) led _ (mark-shown lost stamp)
+  listed (End stamp) led =
+      end-last
+      ∙ ap (λ (y : Session). last-line y count (end-text count)) (sym (end-same led))
+      ∙ ap (λ (r : Added). in-session r after) (sym (end-taken stop (last-added status count (end-text count)) led))
+  listed (Refused number) led =
+      refused-last number
+      ∙ ap (λ (y : Session). last-line y count (stop-text count number)) (sym (refused-same led))
+      ∙ ap (λ (r : Added). in-session r after) (sym (refused-stops stop number led))
 
-  pub refused-adds : Ready s → (made : Status → Session) → made (s .shared .status) ≡ s → (n : ℕ) → x ≡ ReadAs.refused n
-      → (a : Added) → a ≡ last-added (s .shared .status) count (stop-text count n) → Adds s count x a (made (a .status))
-  refused-adds ready made own n e = last-adds ready made own (stop-text count n) (ap (λ (y : ReadAs). by-one s count (one-read s y)) e ∙ shown)
-    where
-      shown : by-one s count (one-read s (ReadAs.refused n)) ≡ last-line s count (stop-text count n)
-      shown = unfold one-read by-one in refl
+-- what a record adds; `made` is the session of the arrays after it
+pub read-listed : (s : Session) (count : ℕ) (read : RecordRead) (a : Answer) (status : Status) (made : Status → Session) → Takes s (case-as read) a (made status)
+    → (r : Added) → r ≡ added-of a status count read → Adds s count (case-as read) r (made (r .status))
+read-listed s count read a status made led r is =
+    subst (λ (x : Added). Adds s count (case-as read) x (made (x .status))) (sym is)
+    (subst (λ (t : Status). Adds s count (case-as read) (added-of a status count read) (made t)) (sym (added-status a status count read))
+    (record { listed = listed s count a status (made status) read led; ready = led .ready }))

@@ -1,37 +1,50 @@
 -- What a record did, and what that leads to.
 use Prim.Native.Nat.{ℕ, zero, suc, _≤_}
-use mathlib.Core.Path.{_≡_, refl, sym, _∙_, ap, ap₂}
-use mathlib.Core.Bool.{Bool, cond}
+use mathlib.Core.Path.{_≡_, refl, sym, _∙_, ap, ap₂, subst}
+use mathlib.Core.Bool.{cond}
 use mathlib.Core.List.{List}
 use native.Mathlib.Omega.{arith}
 use lib.ListN.{length}
 use lib.Dec.{eqb}
-use Rattle.meaning.specs.Calls.{Call}
+use Rattle.meaning.specs.Calls.{Call, unless-refused}
 use Rattle.record_form.specs.Record.{RecordAnswer, record-size, record-answer, gap, numbers, IsRead}
 use Rattle.trace_form.specs.ReadAs.{ReadAs, case-as}
 use Rattle.record_form.specs.declared.RecordRead.{RecordRead}
-use Rattle.record_form.specs.declared.RecordRead.the-variants.{End as RecordEnd, Refused as RecordRefused}
+use Rattle.record_form.specs.declared.RecordRead.the-variants.{Input, Output, Gap, End as RecordEnd, Refused as RecordRefused}
 use Rattle.trace_form.proofs.ReadAs.{read-known, read-whole, fields-read}
 use Rattle.session_record.specs.declared.Session.{Session}
 use Rattle.session_record.specs.declared.Answer.{Answer}
 use Rattle.session_record.specs.declared.Stepped.{Stepped}
 use Rattle.session_record.specs.Record.{latest-of}
 use Rattle.session_record.specs.Step.{stepped-of}
-use Rattle.session_record.specs.Lent.{Ready, Advanced}
+use Rattle.session_record.specs.Lent.{Ready}
 use Rattle.session_record.proofs.Steps.{step-refused, answer-refusal}
+use Rattle.one_record.specs.Takes.{Takes}
+use Rattle.one_record.proofs.Takes.{end-same, refused-same, end-taken, refused-stops}
+use Rattle.walk.specs.declared.Stop.the-variants.{End, Refused}
+use Rattle.walk.specs.declared.Did.{Did}
 use Rattle.walk.specs.declared.Did.the-variants.{Took, Ended, Not}
-use Rattle.walk.specs.Walk.{Walk, One, one-call, try-call, one-read, one-of, one-more, walked-by, lost-with}
-use Rattle.walk.specs.Lent.{did-of, did-by, Leaves, Turned}
+use Rattle.walk.specs.declared.Turn.{Turn}
+use Rattle.walk.specs.Walk.{Walk, One, one-call, try-call, one-read, one-of, stopped, one-more, walked-by, lost-with}
+use Rattle.walk.specs.Lent.{turn-of}
 
-pub did-zero : (n : ℕ) → n ≡ 0 → Took ≡ did-of n
-unfolding did-of
-did-zero zero e = refl
-did-zero (suc n) e = let z : ⊥ = omega arith in absurd z
+-- What a record that did this leads to, with the session after it; `more` is the walk over the bytes behind it.
+unfoldable pub did-by : Did → Session → Session → (Session → Walk) → Walk
+did-by Took s after more = one-more (more after)
+did-by Ended s after more = stopped s End record-size
+did-by (Not n) s after more = stopped s (Refused n) 0
 
-pub did-more : (n : ℕ) → (n ≡ 0 → ⊥) → Not n ≡ did-of n
-unfolding did-of
-did-more zero h = absurd (h refl)
-did-more (suc n) h = refl
+-- The session stays unless the record was taken, and a record that was read is there. The last gap's number of lost lines, `lost` before a
+-- record that was taken, is `next` behind it.
+abbrev pub Leaves : Did → Session → Session → List ℕ → (lost next : ℕ) → Type 0
+Leaves Took s after bytes lost next = (record-size ≤ length bytes) × (next ≡ lost-with lost bytes)
+Leaves Ended s after bytes lost next = (after ≡ s) × (record-size ≤ length bytes)
+Leaves (Not n) s after bytes lost next = after ≡ s
+
+pub record Turned (s : Session) (lost : ℕ) (bytes : List ℕ) (did : Did) (after : Session) (next : ℕ) : Type 0 where
+  pub leads : (more : Session → Walk) → walked-by (one-of s bytes) s more ≡ did-by did s after more
+  pub leaves : Leaves did s after bytes lost next
+  pub ready : Ready after
 
 -- what a refused call leaves: the session as it was
 pub refused-stays : (s : Session) (c : Call) (n : ℕ) → stepped-of s c .answer .refusal ≡ suc n → stepped-of s c .session ≡ s
@@ -47,61 +60,79 @@ module _ (s : Session) (bytes : List ℕ) (r : RecordRead) (h : IsRead bytes (la
   pub whole-record : (x : RecordRead) → r ≡ x → numbers x .refusal ≡ 0 → record-size ≤ length bytes
   whole-record x e z = read-whole h (ap (λ (y : RecordRead). numbers y .refusal) e ∙ z)
 
-  -- a record that is a call, by what the call on lent arrays says of it, and whether it is a gap
-  pub call-turned : (c : Call) (x : RecordRead) → r ≡ x → case-as x ≡ ReadAs.call c → numbers x .refusal ≡ 0 → (a : Answer) (after : Session) → Advanced s c a after
-      → (lost : ℕ) (is : Bool) → eqb (numbers x .kind) gap ≡ is → Turned s lost bytes (did-of (a .refusal)) after (cond is (numbers x .action) lost)
-  call-turned c x e k z a after led lost is same-kind =
-      record {
-        leads = λ more. ap (λ (o : One). walked-by o s more) (one-known x e ∙ ap (one-read s) k ∙ tried ∙ ap (one-call s c) number) ∙ leads (a .refusal) more;
-        leaves = leaves (a .refusal) number;
-        ready = led .ready;
-      }
+  -- the same of a turn
+  abbrev Turns : ℕ → Session → Turn → Type 0
+  Turns lost after t = Turned s lost bytes (t .did) after (t .lost)
+
+  -- a record that is a call; `next` is the last gap's number of lost lines with it
+  call-turned : (c : Call) (x : RecordRead) → r ≡ x → case-as x ≡ ReadAs.call c → numbers x .refusal ≡ 0 → (a : Answer) (after : Session) → Takes s (ReadAs.call c) a after
+      → (lost next : ℕ) → cond (eqb (numbers x .kind) gap) (numbers x .action) lost ≡ next
+      → Turns lost after (unless-refused (a .refusal) (record { did = Took; lost = next }) (record { did = Not (a .refusal); lost = lost }))
+  call-turned c x e k z a after led lost next last = subst (λ (n : ℕ). Turns lost after (turn n)) number (go (stepped-of s c .answer .refusal) refl)
     where
+      turn : ℕ → Turn
+      turn n = unless-refused n (record { did = Took; lost = next }) (record { did = Not n; lost = lost })
+
       tried : one-read s (ReadAs.call c) ≡ try-call s c
       tried = unfold one-read in refl
 
       number : stepped-of s c .answer .refusal ≡ a .refusal
-      number = ap (λ (y : Stepped). y .answer .refusal) (led .stepped)
+      number = ap (λ (y : Stepped). y .answer .refusal) (led .taken)
 
       same : stepped-of s c .session ≡ after
-      same = ap (λ (y : Stepped). y .session) (led .stepped)
-
-      leads : (n : ℕ) (more : Session → Walk) → walked-by (one-call s c n) s more ≡ did-by (did-of n) s after more
-      leads zero more = unfold one-call walked-by did-of did-by in (ap (λ (y : Session). one-more (more y)) same)
-      leads (suc n) more = unfold one-call walked-by did-of did-by in refl
+      same = ap (λ (y : Stepped). y .session) (led .taken)
 
       -- the record is the one at the front of the bytes
       front : record-answer bytes (latest-of s) ≡ numbers x
       front = sym (h .in-numbers) ∙ ap numbers e
 
-      numbered : cond is (numbers x .action) lost ≡ lost-with lost bytes
+      numbered : next ≡ lost-with lost bytes
       numbered =
           let f = fields-read bytes (latest-of s) (ap (λ (y : RecordAnswer). y .refusal) front ∙ z) in
-          ap₂ (λ (t : Bool) (n : ℕ). cond t n lost) (sym same-kind ∙ ap (λ (y : RecordAnswer). eqb (y .kind) gap) (sym front) ∙ ap (λ (n : ℕ). eqb n gap) (f .0))
-          (ap (λ (y : RecordAnswer). y .action) (sym front) ∙ f .1)
+          sym last
+          ∙ ap (λ (y : RecordAnswer). cond (eqb (y .kind) gap) (y .action) lost) (sym front)
+          ∙ ap₂ (λ (k n : ℕ). cond (eqb k gap) n lost) (f .0) (f .1)
 
-      leaves : (n : ℕ) → stepped-of s c .answer .refusal ≡ n → Leaves (did-of n) s after bytes lost (cond is (numbers x .action) lost)
-      leaves zero q = unfold did-of in (whole-record x e z, numbered)
-      leaves (suc n) q = unfold did-of in (sym same ∙ refused-stays s c n q)
+      one : (n : ℕ) → stepped-of s c .answer .refusal ≡ n → one-of s bytes ≡ one-call s c n
+      one n q = one-known x e ∙ ap (one-read s) k ∙ tried ∙ ap (one-call s c) q
 
-  pub end-turned : Ready s → (t : ℕ) → r ≡ RecordEnd t → (lost next : ℕ) → Turned s lost bytes Ended s next
-  end-turned ready t e lost next =
-      record {
-        leads = λ more. ap (λ (o : One). walked-by o s more) (one-known (RecordEnd t) e) ∙ ended more;
-        leaves = (refl, whole-record (RecordEnd t) e refl);
-        ready = ready;
-      }
+      go : (n : ℕ) → stepped-of s c .answer .refusal ≡ n → Turns lost after (turn n)
+      go zero q =
+          record {
+            leads = λ more. ap (λ (o : One). walked-by o s more) (one zero q) ∙ unfold one-call walked-by did-by in (ap (λ (y : Session). one-more (more y)) same);
+            leaves = (whole-record x e z, numbered);
+            ready = led .ready;
+          }
+      go (suc n) q =
+          record {
+            leads = λ more. ap (λ (o : One). walked-by o s more) (one (suc n) q) ∙ unfold one-call walked-by did-by in refl;
+            leaves = sym same ∙ refused-stays s c n q;
+            ready = led .ready;
+          }
+
+  -- what the record did, by the session's answer to it
+  pub read-turned : (a : Answer) (after : Session) → Takes s (case-as r) a after → (lost : ℕ) (t : Turn) → t ≡ turn-of (a .refusal) lost r → Turns lost after t
+  read-turned a after led lost t is = subst (Turns lost after) (sym is) (go r refl led)
     where
-      ended : (more : Session → Walk) → walked-by (one-read s ReadAs.end) s more ≡ did-by Ended s s more
-      ended more = unfold one-read walked-by did-by in refl
+      -- a stop at a refusal
+      stop : ℕ → Turn
+      stop n = record { did = Not n; lost = lost }
 
-  pub refused-turned : Ready s → (n : ℕ) → r ≡ RecordRefused n → (lost next : ℕ) → Turned s lost bytes (Not n) s next
-  refused-turned ready n e lost next =
-      record {
-        leads = λ more. ap (λ (o : One). walked-by o s more) (one-known (RecordRefused n) e) ∙ refused more;
-        leaves = refl;
-        ready = ready;
-      }
-    where
-      refused : (more : Session → Walk) → walked-by (one-read s (ReadAs.refused n)) s more ≡ did-by (Not n) s s more
-      refused more = unfold one-read walked-by did-by in refl
+      go : (x : RecordRead) → r ≡ x → Takes s (case-as x) a after → Turns lost after (turn-of (a .refusal) lost x)
+      go (Input action stamp) e h = call-turned _ (Input action stamp) e refl refl a after h lost lost refl
+      go (Output action stamp) e h = call-turned _ (Output action stamp) e refl refl a after h lost lost refl
+      go (Gap number stamp) e h = call-turned _ (Gap number stamp) e refl refl a after h lost number refl
+      go (RecordEnd stamp) e h =
+          subst (Turns lost after) (sym (end-taken stop (record { did = Ended; lost = lost }) h))
+          (record {
+            leads = λ more. ap (λ (o : One). walked-by o s more) (one-known (RecordEnd stamp) e) ∙ unfold one-read walked-by did-by in refl;
+            leaves = (end-same h, whole-record (RecordEnd stamp) e refl);
+            ready = h .ready;
+          })
+      go (RecordRefused number) e h =
+          subst (Turns lost after) (sym (refused-stops stop number h))
+          (record {
+            leads = λ more. ap (λ (o : One). walked-by o s more) (one-known (RecordRefused number) e) ∙ unfold one-read walked-by did-by in refl;
+            leaves = refused-same h;
+            ready = h .ready;
+          })

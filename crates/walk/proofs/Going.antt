@@ -15,7 +15,8 @@ use Rattle.walk.specs.declared.Stop.the-variants.{Budget, End, Refused}
 use Rattle.walk.specs.declared.Did.{Did}
 use Rattle.walk.specs.declared.Did.the-variants.{Took, Ended, Not}
 use Rattle.walk.specs.Walk.{Walk, one-of, stopped, one-more, walked-by, walk-on, lost-with, last-lost, walk-answer, budget-of, walk-of}
-use Rattle.walk.specs.Lent.{did-by, Turned, HasGone}
+use Rattle.walk.specs.Lent.{HasGone}
+use Rattle.walk.proofs.Dids.{did-by, Turned}
 use Rattle.walk.proofs.Lost.{last-next}
 
 -- so many records and bytes before a walk

@@ -1,39 +1,29 @@
--- Records on lent arrays: what one of them, and a walk, leads to.
-use Prim.Native.Nat.{ℕ, zero, suc, _≤_}
+-- Records on lent arrays: what one of them did, and what a walk leads to.
+use Prim.Native.Nat.{ℕ, _≤_}
 use mathlib.Core.Path.{_≡_}
 use mathlib.Core.List.{List}
 use lib.ListN.{length}
-use Rattle.record_form.specs.Record.{record-size}
+use Rattle.meaning.specs.Calls.{unless-refused}
+use Rattle.record_form.specs.declared.RecordRead.{RecordRead}
+use Rattle.record_form.specs.declared.RecordRead.the-variants.{Input, Output, Gap, End, Refused}
 use Rattle.session_record.specs.declared.Session.{Session}
 use Rattle.session_record.specs.Lent.{Ready}
 use Rattle.walk.specs.declared.Stop.{Stop}
-use Rattle.walk.specs.declared.Stop.the-variants.{End, Refused}
-use Rattle.walk.specs.declared.Did.{Did}
 use Rattle.walk.specs.declared.Did.the-variants.{Took, Ended, Not}
-use Rattle.walk.specs.Walk.{Walk, one-of, stopped, one-more, walked-by, walk-on, lost-with, last-lost}
+use Rattle.walk.specs.declared.Turn.{Turn}
+use Rattle.walk.specs.Walk.{walk-on, last-lost}
 
--- What a call with this refusal number did.
-unfoldable pub did-of : ℕ → Did
-did-of zero = Took
-did-of (suc n) = Not (suc n)
+-- What a record did that the session has not refused, as it was read; `before` is the last gap's number of lost lines so far.
+abbrev pub kind-turn : ℕ → RecordRead → Turn
+kind-turn before (Input action stamp) = record { did = Took; lost = before }
+kind-turn before (Output action stamp) = record { did = Took; lost = before }
+kind-turn before (Gap number stamp) = record { did = Took; lost = number }
+kind-turn before (End stamp) = record { did = Ended; lost = before }
+kind-turn before (Refused number) = record { did = Not number; lost = before }
 
--- What a record that did this leads to, with the session after it; `more` is the walk over the bytes behind it.
-unfoldable pub did-by : Did → Session → Session → (Session → Walk) → Walk
-did-by Took s after more = one-more (more after)
-did-by Ended s after more = stopped s End record-size
-did-by (Not n) s after more = stopped s (Refused n) 0
-
--- The session stays unless the record was taken, and a record that was read is there. The last gap's number of lost lines, `lost` before a
--- record that was taken, is `next` behind it.
-abbrev pub Leaves : Did → Session → Session → List ℕ → (lost next : ℕ) → Type 0
-Leaves Took s after bytes lost next = (record-size ≤ length bytes) × (next ≡ lost-with lost bytes)
-Leaves Ended s after bytes lost next = (after ≡ s) × (record-size ≤ length bytes)
-Leaves (Not n) s after bytes lost next = after ≡ s
-
-pub record Turned (s : Session) (lost : ℕ) (bytes : List ℕ) (did : Did) (after : Session) (next : ℕ) : Type 0 where
-  pub leads : (more : Session → Walk) → walked-by (one-of s bytes) s more ≡ did-by did s after more
-  pub leaves : Leaves did s after bytes lost next
-  pub ready : Ready after
+-- By the number that the session has refused it with, if it has.
+abbrev pub turn-of : ℕ → ℕ → RecordRead → Turn
+turn-of refusal before read = unless-refused refusal (kind-turn before read) (record { did = Not refusal; lost = before })
 
 pub record HasGone (budget : ℕ) (s : Session) (bytes : List ℕ) (taken : ℕ) (stop : Stop) (read lost : ℕ) (after : Session) : Type 0 where
   pub walked : walk-on budget s bytes ≡ record { taken = taken; stop = stop; read = read; session = after }

@@ -6,13 +6,13 @@ ghost use Rattle.fields.specs.Rest.{Rest};
 ghost use Rattle.table.specs.Table.{IsTable};
 ghost use Rattle.session_record.specs.Lent.{in-arrays, Ready};
 ghost use Rattle.walk.specs.Walk.{in-numbers, walk-of, budget-of, rest-start};
-ghost use Rattle.walk.specs.Lent.{did-of, Turned, HasGone};
+ghost use Rattle.walk.specs.declared.Did.the-variants.{Took};
+ghost use Rattle.walk.specs.Lent.{turn-of, HasGone};
 use held::Status;
 use property::Property;
 use record_form::RECORD_SIZE;
 use record_form::RecordRead;
 use session_record::Session;
-use session_record::Told;
 
 // "a budget of 0 to 4,096 records (more counts as 4,096)"
 const MOST_RECORDS: usize = 4096;
@@ -46,11 +46,9 @@ pub enum Did {
     Not(u64),
 }
 
-// One record on lent arrays: what it did, and the numbers beside the arrays after it.
+// What one record did, with the last gap's number of lost lines behind it if it was taken.
 pub struct Turn {
     pub did: Did,
-    pub status: Status,
-    // The last gap's number of lost lines, if the record was taken.
     pub lost: u8,
 }
 
@@ -63,100 +61,42 @@ pub struct Went {
     pub status: Status,
 }
 
-// A call was taken, or refused with its number.
-fn outcome(refusal: u64) -> Did
-    ensures { λ r. ⌜ r ≡ did-of refusal ⌝ }
-{
-    if refusal == 0 {
-        return Did::Took;
-    }
-    Did::Not(refusal)
-}
-
-// The last gap's number of lost lines: of this record if it is a gap, else the one before.
-fn last_lost(gap: bool, number: u8, before: u8) -> u8
-    ensures { λ r. ⌜ r ≡ cond gap number before ⌝ }
+// A record was taken. `number` is its number of lost lines if it is a gap, and `before` the last gap's so far.
+fn took(gap: bool, number: u8, before: u8) -> Turn
+    ensures { λ t. ⌜ t ≡ record { did = Took; lost = cond gap number before } ⌝ }
 {
     if gap {
-        return number;
+        return Turn {
+            did: Did::Took,
+            lost: number,
+        };
     }
-    before
-}
-
-// What a call did; `number` is in the record's 6 bits of action, and `before` the last gap's number so far.
-fn after(r: Told, gap: bool, number: u8, before: u8) -> Turn
-    ensures { λ t. ⌜ t ≡ record { did = did-of (r .answer .refusal); status = r .status; lost = cond gap number before } ⌝ }
-{
-    let answer = r.answer;
-    let status = r.status;
     Turn {
-        did: outcome(answer.refusal),
-        status: status,
-        lost: last_lost(gap, number, before),
+        did: Did::Took,
+        lost: before,
     }
 }
 
-// The record at the front of `bytes`.
-fn one_record(
-    p: Property,
-    table: &[u8; 4257],
-    held: &mut [u64; 64],
-    acts: &mut [u8; 64],
-    masks: &mut [u64; 65],
-    marks: &mut [u64; 65],
-    status: Status,
-    lost: u8,
-    bytes: &[u8],
-) -> Turn
-    requires { ⌜ Ready (in-arrays p (now held) (now acts) (now masks) (now marks) status) × IsTable p (now table) ⌝ }
-    ensures { λ r. ⌜ Turned (in-arrays p (now (held .entry)) (now (acts .entry)) (now (masks .entry)) (now (marks .entry)) status)
-        lost (now (bytes .entry)) (r .did)
-        (in-arrays p (now (held .exit)) (now (acts .exit)) (now (masks .exit)) (now (marks .exit)) (r .status)) (r .lost) ⌝ }
+// What a record did, as it was read, with the number of the session's refusal or 0; `lost` is the last gap's number so far.
+fn done(refusal: u64, lost: u8, read: RecordRead) -> Turn
+    ensures { λ t. ⌜ t ≡ turn-of refusal lost read ⌝ }
 {
-    let record = record_form::read_record(bytes, status.latest);
-    match record {
-        RecordRead::Input(action, stamp) => {
-            let told = in_place::line(
-                p,
-                table,
-                held,
-                acts,
-                masks,
-                marks,
-                status,
-                false,
-                action,
-                stamp,
-            );
-            after(told, false, action, lost)
-        }
-        RecordRead::Output(action, stamp) => {
-            let told = in_place::line(
-                p,
-                table,
-                held,
-                acts,
-                masks,
-                marks,
-                status,
-                true,
-                action,
-                stamp,
-            );
-            after(told, false, action, lost)
-        }
-        RecordRead::Gap(number, stamp) => {
-            let told = gap_mark::mark(p, held, acts, masks, marks, status, number, stamp);
-            after(told, true, number, lost)
-        }
+    if refusal != 0 {
+        return Turn {
+            did: Did::Not(refusal),
+            lost: lost,
+        };
+    }
+    match read {
+        RecordRead::Input(_, _) => took(false, 0, lost),
+        RecordRead::Output(_, _) => took(false, 0, lost),
+        RecordRead::Gap(number, _) => took(true, number, lost),
         RecordRead::End(_) => Turn {
             did: Did::Ended,
-            status: status,
             lost: lost,
         },
         RecordRead::Refused(number) => Turn {
             did: Did::Not(number),
-            status: status,
             lost: lost,
         },
     }
@@ -196,9 +136,12 @@ pub fn records(
     let mut here = status;
     let mut lost = 0;
     while taken < budget {
-        let t = one_record(p, table, held, acts, masks, marks, here, lost, &trace[at..]);
+        let read = record_form::read_record(&trace[at..], here.latest);
+        let told = one_record::take(p, table, held, acts, masks, marks, here, read);
+        let answer = told.answer;
+        let next = told.status;
+        let t = done(answer.refusal, lost, read);
         let did = t.did;
-        let next = t.status;
         match did {
             Did::Took => {
                 here = next;

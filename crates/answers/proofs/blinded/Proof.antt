@@ -1,4 +1,4 @@
--- `in_place::blinded` meets its contract.
+-- `answers::blinded` meets its contract.
 use mathlib.Core.Bool.{true}
 use mathlib.Core.Path.{ap}
 use Rattle.session_record.specs.declared.Answer.{Answer}

@@ -1,4 +1,4 @@
--- `in_place::open_after` meets its contract: by the direction.
+-- `answers::open_after` meets its contract: by the direction.
 use Prim.Native.Nat.{_+_, _-_}
 use mathlib.Core.Path.{sym, ap, _∙_}
 use mathlib.Core.Bool.{Bool, cond}

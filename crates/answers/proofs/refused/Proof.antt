@@ -1,4 +1,4 @@
--- `in_place::refused` meets its contract: refusal 3 stands before those of the stamp.
+-- `answers::refused` meets its contract: refusal 3 stands before those of the stamp.
 use native.Mathlib.Omega.{arith}
 use borrow.Author.Needs.{needs}
 use borrow.Author.Tests.{lt-ltb, le-ltb}

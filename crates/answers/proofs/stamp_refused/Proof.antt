@@ -1,4 +1,4 @@
--- `in_place::stamp_refused` meets its contract: the tests that led to a `return` say which refusal is the first.
+-- `answers::stamp_refused` meets its contract: the tests that led to a `return` say which refusal is the first.
 use native.Mathlib.Omega.{arith}
 use borrow.Author.Tests.{lt-ltb, le-ltb}
 use Rattle.meaning.specs.Limits.{last-stamp}

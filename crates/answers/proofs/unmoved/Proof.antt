@@ -1,4 +1,4 @@
--- `in_place::unmoved` meets its contract.
+-- `answers::unmoved` meets its contract.
 use mathlib.Core.Path.{ap}
 use Rattle.session_record.specs.declared.Answer.{Answer}
 use Rattle.session_record.specs.declared.Told.{Told}

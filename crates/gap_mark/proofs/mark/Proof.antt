@@ -1,4 +1,4 @@
--- `in_place::mark` meets its contract: refused, or the run is closed and the session blind.
+-- `gap_mark::mark` meets its contract: refused, or the run is closed and the session blind.
 use mathlib.Core.Path.{sym}
 use native.Mathlib.Omega.{arith}
 use Rattle.meaning.specs.Calls.{Call, mark-at}

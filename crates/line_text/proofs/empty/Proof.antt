@@ -1,4 +1,4 @@
--- `printout::empty` meets its contract: 96 zeros are the room that no text leaves.
+-- `line_text::empty` meets its contract: 96 zeros are the room that no text leaves.
 use mathlib.Core.Path.{refl}
 use Rattle.line_text.specs.Text.{text-of}
 use Rattle.line_text.proofs.empty.Statement.{statement}

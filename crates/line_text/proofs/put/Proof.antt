@@ -1,4 +1,4 @@
--- `printout::put` meets its contract.
+-- `line_text::put` meets its contract.
 use borrow.Author.Needs.{needs}
 use mathlib.Core.Path.{refl}
 use native.Mathlib.Omega.{arith}

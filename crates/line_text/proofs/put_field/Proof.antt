@@ -1,4 +1,4 @@
--- `printout::put_field` meets its contract.
+-- `line_text::put_field` meets its contract.
 use Rattle.line_text.proofs.Growth.{then}
 use borrow.Author.Needs.{needs}
 use Rattle.line_text.proofs.put_field.Statement.{statement}

@@ -1,4 +1,4 @@
--- `printout::put_number` meets its contract: no number has more than twenty digits.
+-- `line_text::put_number` meets its contract: no number has more than twenty digits.
 use native.Mathlib.Omega.{arith}
 use Rattle.line_text.proofs.Growth.{wider}
 use Rattle.line_text.proofs.Digits.{length-decimal}

@@ -1,4 +1,4 @@
--- `printout::put_word` meets its contract. The loop's invariant: the first i bytes of the word are added.
+-- `line_text::put_word` meets its contract. The loop's invariant: the first i bytes of the word are added.
 use Prim.Native.Nat.{_-_, _≤_}
 use borrow.Author.Needs.{needs}
 use lib.ListN.{length, take}

@@ -1,68 +1,79 @@
--- `open_run::take` meets its contract: what was read, kind by kind.
-use Rattle.open_run.proofs.Standing.{case-known, record-ended, record-refused}
+-- `open_run::take` meets its contract: what the session told of the record, and its line kept.
+use mathlib.Core.Path.{_≡_, refl, sym, subst, _∙_}
+use denote.Ref.{now}
+use Rattle.trace_form.specs.ReadAs.{case-as}
+use Rattle.session_record.specs.declared.Session.{Session}
+use Rattle.session_record.specs.Lent.{in-arrays}
+use Rattle.open_run.specs.declared.Outcome.{Outcome}
+use Rattle.open_run.specs.Kept.{Lines, in-lines}
+use Rattle.open_run.proofs.Standing.{Leads, read-leads}
 use borrow.Author.Needs.{needs}
 use Rattle.open_run.proofs.take.Statement.{statement}
 use Rattle.open_run.proofs.take.Tie as tie
 
-enum-known-read : tie.Need-enum-known-read
-enum-known-read c = search needs
+-- from what the record comes to back to the call and the entry
+abbrev took : tie.After-comes-to → tie.After-take
+took k = k .before .before .before
 
-line-requires : tie.Need-line-requires
-line-requires c κs = search needs
+abbrev entry : tie.After-comes-to → tie.Start
+entry k = took k .before .before .before .before .before
 
-enum-known-read-2 : tie.Need-enum-known-read-2
-enum-known-read-2 c = search needs
+-- the record and the lines that the arrays make up at the entry, and the record after the call
+abbrev start : tie.After-comes-to → Session
+start k =
+    let a = entry k .args in
+    in-arrays (a .p) (now (a .held)) (now (a .acts)) (now (a .masks)) (now (a .marks)) (a .status)
 
-line-requires-2 : tie.Need-line-requires-2
-line-requires-2 c κs = search needs
+abbrev lines : tie.After-comes-to → Lines
+lines k =
+    let a = entry k .args in
+    in-lines (now (a .outputs)) (now (a .actions)) (now (a .stamps)) (a .count)
 
-enum-known-read-3 : tie.Need-enum-known-read-3
-enum-known-read-3 c = search needs
+abbrev after : tie.After-comes-to → Session
+after k =
+    let last = took k .take .last .1 .1 in
+    in-arrays (entry k .args .p) (last .0) (last .1 .0) (last .1 .1 .0) (last .1 .1 .1 .0) (took k .take .result .status)
 
-mark-requires : tie.Need-mark-requires
-mark-requires c κs = search needs
+leads : (k : tie.After-comes-to) {o : Outcome} → k .comes-to .result ≡ o → Leads (start k) (lines k) (case-as (entry k .args .read)) (after k) o
+leads k e =
+    subst (Leads (start k) (lines k) (case-as (entry k .args .read)) (after k)) (sym (k .comes-to .ensures) ∙ e)
+    (read-leads (start k) (entry k .pre .0) (took k .take .result .answer) (after k) (lines k) (entry k .args .read) (took k .take .ensures))
 
-enum-told : tie.Need-enum-told
-enum-told c = search needs
+take-requires : tie.Need-take-requires
+take-requires c κs = search needs
 
-enum-known-read-4 : tie.Need-enum-known-read-4
-enum-known-read-4 c = search needs
+comes-to-requires : tie.Need-comes-to-requires
+comes-to-requires c κs = search needs
+
+enum-known-came : tie.Need-enum-known-came
+enum-known-came c = search needs
+
+keep-requires : tie.Need-keep-requires
+keep-requires c κs = search needs
+
+add-t32 : tie.Need-add-t32
+add-t32 c = search needs
+
+enum-known-came-2 : tie.Need-enum-known-came-2
+enum-known-came-2 c = search needs
 
 returns : tie.Need-returns
 returns c =
-    let read = c .before .before .before .before .before .before .before .before .before in
-    case-known (read .read .given .1) (c .line .ensures)
+    let told = c .before .before .before .before .before in
+    leads (told .before .before) (told .came .given .1) _ (c .keep .ensures) refl
 
 returns-2 : tie.Need-returns-2
-returns-2 c =
-    let read = c .before .before .before .before .before .before .before .before .before in
-    case-known (read .read2 .given .1) (c .line2 .ensures)
-
-returns-3 : tie.Need-returns-3
-returns-3 c =
-    let read = c .before .before .before .before .before .before in
-    case-known (read .read3 .given .1) (c .mark .ensures _ _ _)
-
-returns-4 : tie.Need-returns-4
-returns-4 c = case-known (c .enum-told .given .1) (record-ended _ (c .before .before .pre .0) _)
-
-returns-5 : tie.Need-returns-5
-returns-5 c = case-known (c .before .read4 .given .1) (record-refused _ (c .before .before .before .pre .0) _ _)
+returns-2 c = leads (c .before .before .before) (c .before .came2 .given .1)
 
 pub take-spec : {M : Type 1} → statement M
 take-spec =
     tie.close
     (tie.spec
-    enum-known-read
-    line-requires
-    enum-known-read-2
-    line-requires-2
-    enum-known-read-3
-    mark-requires
-    enum-told
-    enum-known-read-4
+    take-requires
+    comes-to-requires
+    enum-known-came
+    keep-requires
+    add-t32
+    enum-known-came-2
     returns
-    returns-2
-    returns-3
-    returns-4
-    returns-5)
+    returns-2)

@@ -1,4 +1,4 @@
--- `first_order::earliest` meets its contract. The loop: the highest lower end so far, and the moments of the first j lines.
+-- `order_moments::earliest` meets its contract. The loop: the highest lower end so far, and the moments of the first j lines.
 use Prim.Native.Nat.{ℕ, _-_}
 use mathlib.Core.Path.{_≡_, subst}
 use mathlib.Core.List.{[]}

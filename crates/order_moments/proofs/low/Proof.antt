@@ -1,4 +1,4 @@
--- `first_order::low` meets its contract: by the direction.
+-- `order_moments::low` meets its contract: by the direction.
 use Prim.Native.Nat.{_+_}
 use mathlib.Core.Path.{sym, ap}
 use mathlib.Core.Bool.{Bool, cond}

@@ -1,4 +1,4 @@
--- `first_order::moment` meets its contract.
+-- `order_moments::moment` meets its contract.
 use borrow.Author.Needs.{needs}
 use Rattle.order_moments.proofs.Moments.{moment-fits, moment-is}
 use Rattle.order_moments.proofs.moment.Statement.{statement}

@@ -1,4 +1,4 @@
--- `printout::reason::below_zero` meets its contract: a negative number of 64 bits is at most 2 ^ 63 below 0.
+-- `reason_text::below_zero` meets its contract: a negative number of 64 bits is at most 2 ^ 63 below 0.
 use Prim.Native.Nat.{_+_, _^_, _<_}
 use mathlib.Core.Path.{_≡_, sym, ap, subst, _∙_}
 use native.Mathlib.Omega.{arith}

@@ -1,4 +1,4 @@
--- `printout::reason::blind` meets its contract.
+-- `reason_text::blind` meets its contract.
 use lib.Dec.{lit≤}
 use Rattle.line_text.specs.Text.{text-of}
 use Rattle.reason_text.specs.Reason.{blind-text}

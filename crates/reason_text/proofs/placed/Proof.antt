@@ -1,4 +1,4 @@
--- `printout::reason::placed` meets its contract.
+-- `reason_text::placed` meets its contract.
 use mathlib.Core.Path.{ap}
 use mathlib.Core.List.{append-assoc}
 use lib.Dec.{lit≤}

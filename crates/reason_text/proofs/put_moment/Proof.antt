@@ -1,4 +1,4 @@
--- `printout::reason::put_moment` meets its contract: a minus sign and how far it is below 0, or the number as it is.
+-- `reason_text::put_moment` meets its contract: a minus sign and how far it is below 0, or the number as it is.
 use mathlib.Core.Path.{sym, ap, subst, _∙_}
 use native.Mathlib.Omega.{arith}
 use lib.Dec.{T}

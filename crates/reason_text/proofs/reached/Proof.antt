@@ -1,4 +1,4 @@
--- `printout::reason::reached` meets its contract.
+-- `reason_text::reached` meets its contract.
 use mathlib.Core.List.{append-assoc}
 use lib.Dec.{lit≤}
 use Rattle.reason_text.specs.Reason.{reached-text}

@@ -1,4 +1,4 @@
--- `printout::reason::stop` meets its contract.
+-- `reason_text::stop` meets its contract.
 use mathlib.Core.List.{append-assoc}
 use lib.Dec.{lit≤}
 use Rattle.reason_text.specs.Reason.{stop-alone-text}

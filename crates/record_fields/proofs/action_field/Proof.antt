@@ -1,4 +1,4 @@
--- `record_form::action_field` meets its contract: six bits fit a byte.
+-- `record_fields::action_field` meets its contract: six bits fit a byte.
 use borrow.Author.Needs.{needs}
 use native.Mathlib.Omega.{arith}
 use Rattle.fields.proofs.Laws.{is-field-lt}

@@ -1,4 +1,4 @@
--- `record_form::stamp_field` meets its contract: each byte, shifted past those behind it, is its part of the field.
+-- `record_fields::stamp_field` meets its contract: each byte, shifted past those behind it, is its part of the field.
 use lib.Pow.{shl-exact}
 use borrow.Author.Needs.{needs, fits-under}
 use native.Mathlib.Omega.{arith}

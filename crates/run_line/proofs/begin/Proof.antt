@@ -1,4 +1,4 @@
--- `in_place::begin` meets its contract.
+-- `run_line::begin` meets its contract.
 use mathlib.Core.Path.{ap}
 use lib.ListN.{set}
 use Rattle.matcher.specs.declared.Cut.{Cut}

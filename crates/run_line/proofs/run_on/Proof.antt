@@ -1,4 +1,4 @@
--- `in_place::run_on` meets its contract: the answer is read off the front that the arrays hold after the line.
+-- `run_line::run_on` meets its contract: the answer is read off the front that the arrays hold after the line.
 use Prim.Native.Nat.{ℕ, _+_, _-_, _≤_, _<_}
 use mathlib.Core.Path.{_≡_, refl, ap, subst, _∙_}
 use mathlib.Core.Bool.{Bool, false, cond}

@@ -2,13 +2,16 @@
 use Prim.Native.Nat.{ℕ, _-_}
 use mathlib.Core.Path.{_≡_, sym, subst}
 use mathlib.Core.List.{List}
+use lib.ListN.{drop}
 use native.Mathlib.Omega.{arith}
 use borrow.Author.Needs.{needs}
 use Rattle.held.specs.declared.Status.{Status}
 use Rattle.session_record.specs.declared.Session.{Session}
 use Rattle.session_record.specs.Lent.{in-arrays}
+use Rattle.walk.specs.declared.Did.{Did}
 use Rattle.walk.specs.declared.Went.{Went}
 use Rattle.walk.specs.Lent.{HasGone}
+use Rattle.walk.proofs.Dids.{Turned, read-turned}
 use Rattle.walk.proofs.Going.{Going, going-start, going-took, going-ended, going-refused, going-done, turned-part}
 use Rattle.walk.proofs.records.Statement.{statement}
 use Rattle.walk.proofs.records.Tie as tie
@@ -21,18 +24,39 @@ abbrev μ-loop : tie.MeasureT-loop
 μ-loop p table held₀ acts₀ masks₀ marks₀ trace budget taken₀ at₀ here₀ lost₀ held acts masks marks taken at here lost =
     budget - taken
 
--- from a record read back to the turn of the loop, and to the entry
-abbrev turn : tie.After-one-record Inv-loop μ-loop → tie.In-loop Inv-loop μ-loop
-turn k = k .before .before .before .before .before .before
+-- from what a record did back to the call, the record read, the turn of the loop and the entry
+abbrev took : tie.After-done Inv-loop μ-loop → tie.After-take Inv-loop μ-loop
+took k = k .before .before .before
 
-abbrev entry : tie.After-one-record Inv-loop μ-loop → tie.Start Inv-loop μ-loop
-entry k = k .before .before .before .before .before .before .before .before .before
+abbrev reading : tie.After-done Inv-loop μ-loop → tie.After-read-record Inv-loop μ-loop
+reading k = took k .before .before .before .before .before
 
--- the record that the arrays make up after it
-abbrev given : tie.After-one-record Inv-loop μ-loop → Status → Session
+abbrev turn : tie.After-done Inv-loop μ-loop → tie.In-loop Inv-loop μ-loop
+turn k = reading k .before .before
+
+abbrev entry : tie.After-done Inv-loop μ-loop → tie.Start Inv-loop μ-loop
+entry k = turn k .before .before .before
+
+-- the record that the arrays make up before it and after it
+abbrev start : tie.After-done Inv-loop μ-loop → Session
+start k =
+    let w = turn k .before .loop in
+    in-arrays (entry k .args .p) (w .held) (w .acts) (w .masks) (w .marks) (w .here)
+
+abbrev given : tie.After-done Inv-loop μ-loop → Status → Session
 given k =
-    let last = k .one-record .last .1 .1 in
+    let last = took k .take .last .1 .1 in
     in-arrays (entry k .args .p) (last .0) (last .1 .0) (last .1 .1 .0) (last .1 .1 .1 .0)
+
+abbrev next : tie.After-done Inv-loop μ-loop → Session
+next k = given k (took k .take .result .status)
+
+-- what it did
+turned : (k : tie.After-done Inv-loop μ-loop) {did : Did} → k .done .result .did ≡ did
+    → Turned (start k) (turn k .before .loop .lost) (drop (turn k .before .loop .at) (entry k .args .trace .now)) did (next k) (k .done .result .lost)
+turned k e =
+    turned-part (entry k .args .trace .now) (turn k .before .loop .at) e
+    (read-turned (start k) _ _ (reading k .read-record .ensures) (took k .take .result .answer) (next k) (took k .take .ensures) (turn k .before .loop .lost) (k .done .result) (k .done .ensures))
 
 -- what is given back is what the walk has come to
 as-gone : {budget : ℕ} {s : Session} {bytes : List ℕ} (made : Status → Session) {r w : Went} → r ≡ w
@@ -42,48 +66,56 @@ as-gone {budget} {s} {bytes} made e h = subst (λ (x : Went). HasGone budget s b
 loop-holds : tie.Need-loop-holds Inv-loop μ-loop
 loop-holds c = going-start _ _ _ (c .before .pre .0)
 
-sub-one-record : tie.Need-sub-one-record Inv-loop μ-loop
-sub-one-record c = omega (arith, c .before .before .before .before .before .loop .inv .inside)
+sub-read-record : tie.Need-sub-read-record Inv-loop μ-loop
+sub-read-record c = omega (arith, c .before .loop .inv .inside)
 
-part-one-record-start : tie.Need-part-one-record-start Inv-loop μ-loop
-part-one-record-start c = omega (arith, c .before .before .before .before .before .loop .inv .inside)
+part-read-record-start : tie.Need-part-read-record-start Inv-loop μ-loop
+part-read-record-start c = omega (arith, c .before .loop .inv .inside)
 
-part-one-record-end : tie.Need-part-one-record-end Inv-loop μ-loop
-part-one-record-end c = search needs
+part-read-record-end : tie.Need-part-read-record-end Inv-loop μ-loop
+part-read-record-end c = search needs
 
-one-record-requires : tie.Need-one-record-requires Inv-loop μ-loop
-one-record-requires c κs = (c .before .before .before .before .before .before .loop .inv .ready, c .before .before .before .before .before .before .before .before .pre .1)
+read-record-requires : tie.Need-read-record-requires Inv-loop μ-loop
+read-record-requires c κs = search needs
+
+take-requires : tie.Need-take-requires Inv-loop μ-loop
+take-requires c κs =
+    let w = c .before .before .before .before .before .before .before in
+    (w .loop .inv .ready, w .before .before .pre .1)
+
+done-requires : tie.Need-done-requires Inv-loop μ-loop
+done-requires c κs = search needs
 
 enum-told : tie.Need-enum-told Inv-loop μ-loop
 enum-told c = search needs
 
 add-at : tie.Need-add-at Inv-loop μ-loop
 add-at c =
-    let k = c .before .before .before in
+    let k = c .before .before in
     let w = turn k .before .loop in
-    let h = going-took (w .inv) _ _ (turn k .loop-test .taken) (turned-part (entry k .args .trace .now) (w .at) (c .enum-told .given .1) (k .one-record .ensures)) in
+    let h = going-took (w .inv) _ _ (turn k .loop-test .taken) (turned k (c .enum-told .given .1)) in
     omega (arith, h .inside, entry k .good .1 .1 .1 .1 .1 .1 .1 .0)
 
 add-taken : tie.Need-add-taken Inv-loop μ-loop
-add-taken c = omega arith
+add-taken c = omega (arith, turn (c .before .before) .loop-test .taken, entry (c .before .before) .fits .budget)
 
 loop-less : tie.Need-loop-less Inv-loop μ-loop
 loop-less c = omega arith
 
 loop-again : tie.Need-loop-again Inv-loop μ-loop
 loop-again c =
-    let k = c .before .before .before in
+    let k = c .before .before in
     let w = turn k .before .loop in
-    going-took (w .inv) _ _ (turn k .loop-test .taken) (turned-part (entry k .args .trace .now) (w .at) (c .enum-told .given .1) (k .one-record .ensures))
+    going-took (w .inv) _ _ (turn k .loop-test .taken) (turned k (c .enum-told .given .1))
 
 enum-told-2 : tie.Need-enum-told-2 Inv-loop μ-loop
 enum-told-2 c = search needs
 
 add-gone : tie.Need-add-gone Inv-loop μ-loop
 add-gone c =
-    let k = c .before .before .before in
+    let k = c .before .before in
     let w = turn k .before .loop in
-    let h = going-ended (w .inv) _ _ (turn k .loop-test .taken) (turned-part (entry k .args .trace .now) (w .at) (c .enum-told2 .given .1) (k .one-record .ensures)) in
+    let h = going-ended (w .inv) _ _ (turn k .loop-test .taken) (turned k (c .enum-told2 .given .1)) in
     omega (arith, h .within, entry k .good .1 .1 .1 .1 .1 .1 .1 .0)
 
 gone-requires : tie.Need-gone-requires Inv-loop μ-loop
@@ -91,10 +123,10 @@ gone-requires c κs = search needs
 
 returns : tie.Need-returns Inv-loop μ-loop
 returns c =
-    let k = c .before .before .before .before in
+    let k = c .before .before .before in
     let w = turn k .before .loop in
     as-gone (given k) (c .gone .ensures)
-    (going-ended (w .inv) _ _ (turn k .loop-test .taken) (turned-part (entry k .args .trace .now) (w .at) (c .before .enum-told2 .given .1) (k .one-record .ensures)))
+    (going-ended (w .inv) _ _ (turn k .loop-test .taken) (turned k (c .before .enum-told2 .given .1)))
 
 enum-known-did : tie.Need-enum-known-did Inv-loop μ-loop
 enum-known-did c = search needs
@@ -104,10 +136,10 @@ gone-requires-2 c κs = search needs
 
 returns-2 : tie.Need-returns-2 Inv-loop μ-loop
 returns-2 c =
-    let k = c .before .before .before .before .before in
+    let k = c .before .before .before .before in
     let w = turn k .before .loop in
     as-gone (given k) (c .gone2 .ensures)
-    (going-refused (w .inv) _ _ _ (turn k .loop-test .taken) (turned-part (entry k .args .trace .now) (w .at) (c .before .before .did .given .1) (k .one-record .ensures)))
+    (going-refused (w .inv) _ _ _ (turn k .loop-test .taken) (turned k (c .before .before .did .given .1)))
 
 gone-requires-3 : tie.Need-gone-requires-3 Inv-loop μ-loop
 gone-requires-3 c κs = search needs
@@ -124,10 +156,12 @@ records-spec =
     Inv-loop
     μ-loop
     loop-holds
-    sub-one-record
-    part-one-record-start
-    part-one-record-end
-    one-record-requires
+    sub-read-record
+    part-read-record-start
+    part-read-record-end
+    read-record-requires
+    take-requires
+    done-requires
     enum-told
     add-at
     add-taken

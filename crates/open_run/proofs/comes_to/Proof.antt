@@ -1,0 +1,67 @@
+-- `open_run::comes_to` meets its contract: the session refused the record, or what was read, kind by kind.
+use mathlib.Core.Path.{refl, sym}
+use Rattle.meaning.proofs.Refusals.{unless-kept}
+use Rattle.one_record.proofs.Takes.{kind-known}
+use Rattle.open_run.specs.Kept.{kind-outcome}
+use borrow.Author.Needs.{needs}
+use Rattle.open_run.proofs.comes_to.Statement.{statement}
+use Rattle.open_run.proofs.comes_to.Tie as tie
+
+returns : tie.Need-returns
+returns c = sym (unless-kept _ _ _ (c .if1 .taken))
+
+enum-known-read : tie.Need-enum-known-read
+enum-known-read c = search needs
+
+line-requires : tie.Need-line-requires
+line-requires c κs = search needs
+
+enum-known-read-2 : tie.Need-enum-known-read-2
+enum-known-read-2 c = search needs
+
+line-requires-2 : tie.Need-line-requires-2
+line-requires-2 c κs = search needs
+
+enum-told : tie.Need-enum-told
+enum-told c = search needs
+
+enum-told-2 : tie.Need-enum-told-2
+enum-told-2 c = search needs
+
+enum-known-read-3 : tie.Need-enum-known-read-3
+enum-known-read-3 c = search needs
+
+returns-2 : tie.Need-returns-2
+returns-2 c =
+    kind-known (kind-outcome _ _) _ (c .before .before .before .before .if1 .left) (c .before .before .read .given .1) (c .line .ensures)
+
+returns-3 : tie.Need-returns-3
+returns-3 c =
+    kind-known (kind-outcome _ _) _ (c .before .before .before .before .if1 .left) (c .before .before .read2 .given .1) (c .line2 .ensures)
+
+returns-4 : tie.Need-returns-4
+returns-4 c = kind-known (kind-outcome _ _) _ (c .before .before .if1 .left) (c .enum-told .given .1) refl
+
+returns-5 : tie.Need-returns-5
+returns-5 c = kind-known (kind-outcome _ _) _ (c .before .before .if1 .left) (c .enum-told2 .given .1) refl
+
+returns-6 : tie.Need-returns-6
+returns-6 c = kind-known (kind-outcome _ _) _ (c .before .before .before .if1 .left) (c .before .read3 .given .1) refl
+
+pub comes-to-spec : {M : Type 1} → statement M
+comes-to-spec =
+    tie.close
+    (tie.spec
+    returns
+    enum-known-read
+    line-requires
+    enum-known-read-2
+    line-requires-2
+    enum-told
+    enum-told-2
+    enum-known-read-3
+    returns-2
+    returns-3
+    returns-4
+    returns-5
+    returns-6)

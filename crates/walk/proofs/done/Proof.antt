@@ -1,0 +1,69 @@
+-- `walk::done` meets its contract: the session refused the record, or what was read, kind by kind.
+use mathlib.Core.Path.{refl, sym}
+use Rattle.meaning.proofs.Refusals.{unless-kept}
+use Rattle.one_record.proofs.Takes.{kind-known}
+use Rattle.walk.specs.Lent.{kind-turn}
+use borrow.Author.Needs.{needs}
+use Rattle.walk.proofs.done.Statement.{statement}
+use Rattle.walk.proofs.done.Tie as tie
+
+returns : tie.Need-returns
+returns c = sym (unless-kept _ _ _ (c .if1 .taken))
+
+enum-told : tie.Need-enum-told
+enum-told c = search needs
+
+took-requires : tie.Need-took-requires
+took-requires c κs = search needs
+
+enum-told-2 : tie.Need-enum-told-2
+enum-told-2 c = search needs
+
+took-requires-2 : tie.Need-took-requires-2
+took-requires-2 c κs = search needs
+
+enum-known-read : tie.Need-enum-known-read
+enum-known-read c = search needs
+
+took-requires-3 : tie.Need-took-requires-3
+took-requires-3 c κs = search needs
+
+enum-told-3 : tie.Need-enum-told-3
+enum-told-3 c = search needs
+
+enum-known-read-2 : tie.Need-enum-known-read-2
+enum-known-read-2 c = search needs
+
+returns-2 : tie.Need-returns-2
+returns-2 c = kind-known (kind-turn _) _ (c .before .before .before .if1 .left) (c .before .enum-told .given .1) (c .took .ensures)
+
+returns-3 : tie.Need-returns-3
+returns-3 c = kind-known (kind-turn _) _ (c .before .before .before .if1 .left) (c .before .enum-told2 .given .1) (c .took2 .ensures)
+
+returns-4 : tie.Need-returns-4
+returns-4 c = kind-known (kind-turn _) _ (c .before .before .before .before .if1 .left) (c .before .before .read .given .1) (c .took3 .ensures)
+
+returns-5 : tie.Need-returns-5
+returns-5 c = kind-known (kind-turn _) _ (c .before .before .if1 .left) (c .enum-told3 .given .1) refl
+
+returns-6 : tie.Need-returns-6
+returns-6 c = kind-known (kind-turn _) _ (c .before .before .before .if1 .left) (c .before .read2 .given .1) refl
+
+pub done-spec : {M : Type 1} → statement M
+done-spec =
+    tie.close
+    (tie.spec
+    returns
+    enum-told
+    took-requires
+    enum-told-2
+    took-requires-2
+    enum-known-read
+    took-requires-3
+    enum-told-3
+    enum-known-read-2
+    returns-2
+    returns-3
+    returns-4
+    returns-5
+    returns-6)
