@@ -4,6 +4,13 @@ use crate::arguments;
 // Output, action, stamp.
 pub const LINE: usize = 10;
 
+// A run of up to 512 lines, with zeros behind them.
+pub struct Run {
+    pub output: [bool; 512],
+    pub action: [u8; 512],
+    pub stamp: [u64; 512],
+}
+
 // What stands from line i on.
 fn from_line(s: &[u8], i: usize) -> &[u8] {
     let n = s.len();
@@ -13,36 +20,24 @@ fn from_line(s: &[u8], i: usize) -> &[u8] {
     arguments::behind(s, LINE * i)
 }
 
-// Which of them are outputs, as many as the array has places.
-fn outputs(s: &[u8], a: &mut [bool]) {
+// The first n lines.
+pub fn read(s: &[u8], n: usize) -> Run {
+    let mut output = [false; 512];
+    let mut action = [0u8; 512];
+    let mut stamp = [0u64; 512];
     let mut i = 0;
-    while i < a.len() {
-        a[i] = arguments::flag(from_line(s, i), 0);
+    while i < 512 {
+        if i < n {
+            let line = from_line(s, i);
+            output[i] = arguments::flag(line, 0);
+            action[i] = arguments::byte(line, 1);
+            stamp[i] = arguments::word_at(line, 2);
+        }
         i += 1;
     }
-}
-
-// Their actions.
-fn actions(s: &[u8], a: &mut [u8]) {
-    let mut i = 0;
-    while i < a.len() {
-        a[i] = arguments::byte(from_line(s, i), 1);
-        i += 1;
+    Run {
+        output: output,
+        action: action,
+        stamp: stamp,
     }
-}
-
-// Their stamps.
-fn stamps(s: &[u8], a: &mut [u64]) {
-    let mut i = 0;
-    while i < a.len() {
-        a[i] = arguments::word_at(from_line(s, i), 2);
-        i += 1;
-    }
-}
-
-// As many lines as each array has places.
-pub fn read(s: &[u8], output: &mut [bool], action: &mut [u8], stamp: &mut [u64]) {
-    outputs(s, output);
-    actions(s, action);
-    stamps(s, stamp);
 }

@@ -1,11 +1,8 @@
 // What a call prints, put on a lent page from a place on. Each function gives the place behind what it put; what does not fit is left out.
-ghost use Prim.Native.Nat.{_≤_};
-ghost use lib.ListN.{length};
-
 // The longest answer is that of `Y` with its four lists of 512 places.
 pub type Page = [u8; 32768];
 
-fn put(out: &mut Page, at: usize, b: u8) -> usize {
+pub fn put(out: &mut Page, at: usize, b: u8) -> usize {
     if at < out.len() {
         out[at] = b;
         return at + 1;
@@ -81,28 +78,35 @@ fn put_signed(out: &mut Page, at: usize, v: i64) -> usize {
     put_digits(out, n, size(v))
 }
 
-// A name and numbers.
-pub fn put_numbers(out: &mut Page, at: usize, name: &[u8], numbers: &[u64]) -> usize {
-    let mut n = put_text(out, at, name);
+// The first k numbers, or as many as there are, with a space before each.
+pub fn put_numbers(out: &mut Page, at: usize, numbers: &[u64], k: usize) -> usize {
+    let mut n = at;
     let mut i = 0;
     while i < numbers.len() {
+        if i == k {
+            return n;
+        }
         n = put_number(out, n, numbers[i]);
         i += 1;
     }
     n
 }
 
-// The same, and an end of the line.
-pub fn put_line(out: &mut Page, at: usize, name: &[u8], numbers: &[u64]) -> usize {
-    let n = put_numbers(out, at, name, numbers);
+// A name and so many numbers, and an end of the line.
+pub fn put_line(out: &mut Page, at: usize, name: &[u8], numbers: &[u64], k: usize) -> usize {
+    let named = put_text(out, at, name);
+    let n = put_numbers(out, named, numbers, k);
     put(out, n, b'\n')
 }
 
-// A name and numbers with their signs, and an end of the line.
-pub fn put_signed_line(out: &mut Page, at: usize, name: &[u8], numbers: &[i64]) -> usize {
+// The same of numbers with their signs.
+pub fn put_signed_line(out: &mut Page, at: usize, name: &[u8], numbers: &[i64], k: usize) -> usize {
     let mut n = put_text(out, at, name);
     let mut i = 0;
     while i < numbers.len() {
+        if i == k {
+            return put(out, n, b'\n');
+        }
         n = put_signed(out, n, numbers[i]);
         i += 1;
     }
@@ -110,9 +114,7 @@ pub fn put_signed_line(out: &mut Page, at: usize, name: &[u8], numbers: &[i64]) 
 }
 
 // The number of places up to the last that is not 0.
-fn used(a: &[u64]) -> usize
-    ensures { λ r. ⌜ r ≤ length (now (a .entry)) ⌝ }
-{
+fn used(a: &[u64]) -> usize {
     let mut n = a.len();
     while 0 < n {
         let i = n - 1;
@@ -126,8 +128,7 @@ fn used(a: &[u64]) -> usize
 
 // A name, and the places up to the last that is not 0.
 pub fn put_used(out: &mut Page, at: usize, name: &[u8], a: &[u64]) -> usize {
-    let n = used(a);
-    put_line(out, at, name, &a[0..n])
+    put_line(out, at, name, a, used(a))
 }
 
 pub fn wide_flag(b: bool) -> u64 {
@@ -159,24 +160,22 @@ pub fn wide_bytes(a: &[u8]) -> [u64; 65] {
     w
 }
 
-// Bytes in hex, behind their number and a colon, and an end of the line.
+// A byte in hex.
+fn put_byte(out: &mut Page, at: usize, b: u64) -> usize {
+    let n = put(out, at, digit(b / 16));
+    put(out, n, digit(b % 16))
+}
+
+// Bytes in hex, behind their number and a colon.
 pub fn put_hex(out: &mut Page, at: usize, bytes: &[u8]) -> usize {
     let counted = put_number(out, at, bytes.len() as u64);
     let mut n = put(out, counted, b':');
     let mut i = 0;
     while i < bytes.len() {
-        let b = fields::wide(bytes[i]);
-        n = put(out, n, digit(b / 16));
-        n = put(out, n, digit(b % 16));
+        n = put_byte(out, n, fields::wide(bytes[i]));
         i += 1;
     }
-    put(out, n, b'\n')
-}
-
-// A rest: its length, and its first 16 bytes in hex, and an end of the line.
-pub fn put_rest(out: &mut Page, at: usize, rest: &[u8]) -> usize {
-    let counted = put_number(out, at, rest.len() as u64);
-    put_hex(out, counted, crate::arguments::front(rest, 16))
+    n
 }
 
 // The first n bytes of a page.

@@ -9,11 +9,11 @@ Inv-loop calls s₀ left₀ turns₀ s left turns = Unit {0}
 abbrev μ-loop : tie.MeasureT-loop
 μ-loop calls s₀ left₀ turns₀ s left turns = turns
 
-slice-aggregate-session : tie.Need-slice-aggregate-session Inv-loop μ-loop
-slice-aggregate-session c = search needs
+slice-aggregate-read : tie.Need-slice-aggregate-read Inv-loop μ-loop
+slice-aggregate-read c = search needs
 
-session-requires : tie.Need-session-requires Inv-loop μ-loop
-session-requires c κs = search needs
+read-requires : tie.Need-read-requires Inv-loop μ-loop
+read-requires c κs = search needs
 
 loop-holds : tie.Need-loop-holds Inv-loop μ-loop
 loop-holds c = search needs
@@ -21,8 +21,8 @@ loop-holds c = search needs
 last-requires : tie.Need-last-requires Inv-loop μ-loop
 last-requires c κs = search needs
 
-over-requires : tie.Need-over-requires Inv-loop μ-loop
-over-requires c κs = search needs
+byte-requires : tie.Need-byte-requires Inv-loop μ-loop
+byte-requires c κs = search needs
 
 returns : tie.Need-returns Inv-loop μ-loop
 returns c = search needs
@@ -48,11 +48,11 @@ run-spec =
     (tie.spec
     Inv-loop
     μ-loop
-    slice-aggregate-session
-    session-requires
+    slice-aggregate-read
+    read-requires
     loop-holds
     last-requires
-    over-requires
+    byte-requires
     returns
     turn-requires
     sub-turns

@@ -6,16 +6,16 @@ use Rattle.script.proofs.text.put_numbers.Statement.{statement}
 use Rattle.script.proofs.text.put_numbers.Tie as tie
 
 abbrev Inv-loop : tie.InvT-loop
-Inv-loop out₀ at name numbers n₀ i₀ out n i = i ≤ length numbers
+Inv-loop out₀ at numbers k n₀ i₀ out n i = i ≤ length numbers
 
 abbrev μ-loop : tie.MeasureT-loop
-μ-loop out₀ at name numbers n₀ i₀ out n i = length numbers - i
-
-put-text-requires : tie.Need-put-text-requires Inv-loop μ-loop
-put-text-requires c κs = search needs
+μ-loop out₀ at numbers k n₀ i₀ out n i = length numbers - i
 
 loop-holds : tie.Need-loop-holds Inv-loop μ-loop
 loop-holds c = search needs
+
+returns : tie.Need-returns Inv-loop μ-loop
+returns c = search needs
 
 mul-put-number : tie.Need-mul-put-number Inv-loop μ-loop
 mul-put-number c = search needs
@@ -35,8 +35,8 @@ loop-less c = search needs
 loop-again : tie.Need-loop-again Inv-loop μ-loop
 loop-again c = search needs
 
-returns : tie.Need-returns Inv-loop μ-loop
-returns c = search needs
+returns-2 : tie.Need-returns-2 Inv-loop μ-loop
+returns-2 c = search needs
 
 pub put-numbers-spec : {M : Type 1} → statement M
 put-numbers-spec =
@@ -44,12 +44,12 @@ put-numbers-spec =
     (tie.spec
     Inv-loop
     μ-loop
-    put-text-requires
     loop-holds
+    returns
     mul-put-number
     shared-slice-read-put-number
     put-number-requires
     add-i
     loop-less
     loop-again
-    returns)
+    returns-2)

@@ -6,16 +6,22 @@ use Rattle.script.proofs.text.put_signed_line.Statement.{statement}
 use Rattle.script.proofs.text.put_signed_line.Tie as tie
 
 abbrev Inv-loop : tie.InvT-loop
-Inv-loop out₀ at name numbers n₀ i₀ out n i = i ≤ length numbers
+Inv-loop out₀ at name numbers k n₀ i₀ out n i = i ≤ length numbers
 
 abbrev μ-loop : tie.MeasureT-loop
-μ-loop out₀ at name numbers n₀ i₀ out n i = length numbers - i
+μ-loop out₀ at name numbers k n₀ i₀ out n i = length numbers - i
 
 put-text-requires : tie.Need-put-text-requires Inv-loop μ-loop
 put-text-requires c κs = search needs
 
 loop-holds : tie.Need-loop-holds Inv-loop μ-loop
 loop-holds c = search needs
+
+put-requires : tie.Need-put-requires Inv-loop μ-loop
+put-requires c κs = search needs
+
+returns : tie.Need-returns Inv-loop μ-loop
+returns c = search needs
 
 mul-put-signed : tie.Need-mul-put-signed Inv-loop μ-loop
 mul-put-signed c = search needs
@@ -35,11 +41,11 @@ loop-less c = search needs
 loop-again : tie.Need-loop-again Inv-loop μ-loop
 loop-again c = search needs
 
-put-requires : tie.Need-put-requires Inv-loop μ-loop
-put-requires c κs = search needs
+put-requires-2 : tie.Need-put-requires-2 Inv-loop μ-loop
+put-requires-2 c κs = search needs
 
-returns : tie.Need-returns Inv-loop μ-loop
-returns c = search needs
+returns-2 : tie.Need-returns-2 Inv-loop μ-loop
+returns-2 c = search needs
 
 pub put-signed-line-spec : {M : Type 1} → statement M
 put-signed-line-spec =
@@ -49,11 +55,13 @@ put-signed-line-spec =
     μ-loop
     put-text-requires
     loop-holds
+    put-requires
+    returns
     mul-put-signed
     shared-slice-copy-out-put-signed
     put-signed-requires
     add-i
     loop-less
     loop-again
-    put-requires
-    returns)
+    put-requires-2
+    returns-2)

@@ -1,4 +1,4 @@
--- `script::text::used` meets its contract. The measure is the number of places that are left.
+-- `script::text::used` is safe and ends. The measure is the number of places that are left.
 use Prim.Native.Nat.{_≤_}
 use lib.ListN.{length}
 use borrow.Author.Needs.{needs}
