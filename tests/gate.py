@@ -28,6 +28,12 @@ def script_of(path, lines):
     os.chmod(path, 0o755)
 
 
+def heeded():
+    """In the gate's own process: a shell has its background jobs ignore SIGINT, and this may be one of them."""
+    for number in (signal.SIGTERM, signal.SIGINT):
+        signal.signal(number, signal.SIG_DFL)
+
+
 class Stand:
     """A folder with a copy of the gate, a stand-in for rt and one for each test that the gate names. Each test leaves its name in
     `ran`; `rt ci` prints a line and then PASSED, `proving` being what it does before that, or instead of it."""
@@ -62,7 +68,7 @@ class Stand:
     def start(self):
         path = os.path.join(self.top, 'bin') + os.pathsep + os.environ['PATH']
         return subprocess.Popen([self.gate], env=dict(os.environ, PATH=path), stdin=subprocess.DEVNULL, stdout=subprocess.PIPE,
-                                stderr=subprocess.STDOUT, text=True)
+                                stderr=subprocess.STDOUT, text=True, preexec_fn=heeded)
 
     def run(self):
         with self.start() as gate:
