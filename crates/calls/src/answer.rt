@@ -50,11 +50,7 @@ pub fn told(letter: u8, count: usize, numbers: [u64; 6], rest: &[u8], s: Session
 // The first 512 bytes, with zeros behind them.
 pub fn buffer(s: &[u8]) -> Buffer {
     let mut a = [0u8; 512];
-    let mut i = 0;
-    while i < 512 {
-        a[i] = arguments::byte(s, i);
-        i += 1;
-    }
+    arguments::bytes(s, &mut a);
     a
 }
 
