@@ -1,13 +1,10 @@
-// One line of a run on lent arrays. What belongs to one property is a row: the two words of each cut, one before each open input
-// and one after all. What all properties share, the open inputs, is in `held`.
-ghost use Prim.Native.Nat.{ℕ, _-_, _≤_, _<_};
+// One line of a run on lent rows. What belongs to one property is two rows: the two words of each cut, one before each open input and one
+// after all. What all properties share, the open inputs, is in `held`.
+ghost use Prim.Native.Nat.{ℕ, _+_, _-_, _*_, _≤_, _<_};
 ghost use mathlib.Core.Path.{_≡_};
 ghost use mathlib.Core.Bool.{false};
-ghost use mathlib.Core.List.{List};
-ghost use lib.ListN.{length, getD};
-ghost use Rattle.laws.specs.Places.{Shifted};
-ghost use Rattle.laws.specs.Filled.{Filled};
-ghost use Rattle.meaning.specs.Limits.{last-stamp, most-open};
+ghost use lib.ListN.{length};
+ghost use Rattle.meaning.specs.Limits.{last-stamp};
 ghost use Rattle.meaning.specs.Node.{verdict-number};
 ghost use Rattle.meaning.specs.Matcher.{some-to};
 ghost use Rattle.meaning.specs.Numbers.{property-refusal};
@@ -16,78 +13,50 @@ ghost use Rattle.property.specs.declared.Property.{Property};
 ghost use Rattle.table.specs.Table.{IsTable};
 ghost use Rattle.matcher.specs.Sets.{Fits};
 ghost use Rattle.matcher.specs.Sets;
+ghost use Rattle.rows.specs.Rows.{Room};
 ghost use Rattle.held.specs.Held.{Closes};
 ghost use Rattle.cuts.specs.Steps.{line-of, front-after, front-says};
-ghost use Rattle.cuts.specs.Arrays.{row, cut-at, front-of, RowTidy, Usable, Holds, Swept, SweptOne, Appended};
+ghost use Rattle.cuts.specs.Fronts.{cut-at, with-cut, front-of, Usable, Holds, Swept, SweptOne, Appended};
 use matcher::Cut;
 use property::Property;
+use rows::Words;
+use rows::Span;
+use table::Table;
 
-// "there are never more than sixty-five cuts to hold": the matched lengths of each as a mask, and the marks beside it.
+// "there are never more than sixty-five cuts to hold": the matched lengths of each as a mask, and the armed ones beside it.
 pub struct Row {
     pub masks: [u64; 65],
-    pub marks: [u64; 65],
+    pub armed: [u64; 65],
 }
 
-// What cut i stores.
-fn cut_at(masks: &[u64; 65], marks: &[u64; 65], i: usize) -> Cut
-    requires { ⌜ i ≤ most-open ⌝ }
-    ensures { λ r. ⌜ r ≡ cut-at (row (now (masks .entry)) (now (marks .entry))) i ⌝ }
+// What cut i of property j stores.
+fn cut_at(rows: &[Words], span: Span, j: usize, i: usize) -> Cut
+    requires { ⌜ Room (now rows) span × (3 + 2 * j < length (now rows)) × (i ≤ 64) ⌝ }
+    ensures { λ r. ⌜ r ≡ cut-at (now (rows .entry)) span j i ⌝ }
 {
     Cut {
-        mask: masks[i],
-        marks: marks[i],
+        mask: rows::word(rows, span, 2 + 2 * j, i),
+        armed: rows::word(rows, span, 3 + 2 * j, i),
     }
 }
 
-// What stands at a place; behind those in use, 0.
-fn word_at(words: &[u64; 65], i: usize, used: usize) -> u64
-    requires { ⌜ (used ≤ 65) × ((i : ℕ) → used ≤ i → getD (now words) i 0 ≡ 0) ⌝ }
-    ensures { λ r. ⌜ r ≡ getD (now (words .entry)) i 0 ⌝ }
+pub fn put_cut(rows: &mut [Words], span: Span, j: usize, i: usize, cut: Cut)
+    requires { ⌜ Room (now rows) span × (3 + 2 * j < length (now rows)) × (i ≤ 64) ⌝ }
+    ensures { λ _. ⌜ now (rows .exit) ≡ with-cut (now (rows .entry)) span j i cut ⌝ }
 {
-    if i < used {
-        return words[i];
-    }
-    0
-}
-
-// The first d of the open inputs have closed: the cuts before them give their places up, and the others move down.
-pub fn drop_first(masks: &mut [u64; 65], marks: &mut [u64; 65], count: usize, d: usize)
-    requires { ⌜ RowTidy (row (now masks) (now marks)) count × (d ≤ count) × (count ≤ most-open) ⌝ }
-    ensures { λ _. ⌜ Shifted d (now (masks .entry)) (now (masks .exit)) × Shifted d (now (marks .entry)) (now (marks .exit)) ⌝ }
-{
-    if d == 0 {
-        return;
-    }
-    let used = count + 1;
-    let mut i = 0;
-    while i < used {
-        masks[i] = word_at(masks, d + i, used);
-        marks[i] = word_at(marks, d + i, used);
-        i += 1;
-    }
-}
-
-// Places not in use hold 0.
-pub fn tidy(masks: &mut [u64; 65], marks: &mut [u64; 65], used: usize)
-    requires { ⌜ (length (now masks) ≡ 65) × (length (now marks) ≡ 65) × (used ≤ 65) ⌝ }
-    ensures { λ _. ⌜ Filled 0 used 65 (λ i. 0) (now (masks .entry)) (now (masks .exit)) × Filled 0 used 65 (λ i. 0) (now (marks .entry)) (now (marks .exit)) ⌝ }
-{
-    let mut i = used;
-    while i < 65 {
-        masks[i] = 0;
-        marks[i] = 0;
-        i += 1;
-    }
+    rows::put(rows, span, 2 + 2 * j, i, cut.mask);
+    rows::put(rows, span, 3 + 2 * j, i, cut.armed);
 }
 
 // "a matched length above the sequence's", in the set of some cut.
-pub fn strays(masks: &[u64; 65], marks: &[u64; 65], count: usize, n: usize) -> bool
-    requires { ⌜ (count ≤ most-open) × (n ≤ 32) ⌝ }
-    ensures { λ r. ⌜ r ≡ some-to count (λ i. Sets.stray n (cut-at (row (now (masks .entry)) (now (marks .entry))) i)) ⌝ }
+pub fn strays(rows: &[Words], span: Span, j: usize, n: usize) -> bool
+    requires { ⌜ Room (now rows) span × (3 + 2 * j < length (now rows)) × (n ≤ 32) ⌝ }
+    ensures { λ r. ⌜ r ≡ some-to (span .count) (λ i. Sets.stray n (cut-at (now (rows .entry)) span j i)) ⌝ }
 {
+    let count = span.count;
     let mut i = 0;
     while i <= count {
-        if matcher::stray(n, cut_at(masks, marks, i)) {
+        if matcher::stray(n, cut_at(rows, span, j, i)) {
             return true;
         }
         i += 1;
@@ -96,113 +65,98 @@ pub fn strays(masks: &[u64; 65], marks: &[u64; 65], count: usize, n: usize) -> b
 }
 
 // The verdict's number, read off the last cut.
-pub fn verdict(masks: &[u64; 65], marks: &[u64; 65], count: usize) -> u8
-    requires { ⌜ count ≤ most-open ⌝ }
-    ensures { λ r. ⌜ ((p : Property) (held acts : List ℕ) → Fits p (cut-at (row (now (masks .entry)) (now (marks .entry))) count)
-        → r ≡ verdict-number (front-says p (front-of held acts count (row (now (masks .entry)) (now (marks .entry)))))) ⌝ }
+pub fn verdict(rows: &[Words], span: Span, j: usize) -> u8
+    requires { ⌜ Room (now rows) span × (3 + 2 * j < length (now rows)) ⌝ }
+    ensures { λ r. ⌜ ((p : Property) → Fits p (cut-at (now (rows .entry)) span j (span .count))
+        → r ≡ verdict-number (front-says p (front-of (now (rows .entry)) span j))) ⌝ }
 {
-    matcher::verdict(cut_at(masks, marks, count))
+    matcher::verdict(cut_at(rows, span, j, span.count))
 }
 
 // The new set of the cut after an open input, when an output comes: the output directly behind that input, if the input
 // may stand before it, or at an earlier cut, with that input behind it.
 fn swept_cut(
     p: Property,
-    table: &[u8; 4257],
-    act: u8,
-    t: u64,
+    table: &Table,
+    action: u64,
     stamp: u64,
-    input: u8,
+    held: u64,
+    input: u64,
     before: Cut,
     after: Cut,
 ) -> Cut
-    requires { ⌜ (property-refusal (meant p) ≡ 0) × IsTable p (now table) × (stamp ≤ last-stamp) × Fits p before × Fits p after ⌝ }
-    ensures { λ r. ⌜ SweptOne p act t stamp input before after r ⌝ }
+    requires { ⌜ (property-refusal (meant p) ≡ 0) × IsTable p (now table) × (held ≤ last-stamp) × Fits p before × Fits p after ⌝ }
+    ensures { λ r. ⌜ SweptOne p action stamp held input before after r ⌝ }
 {
     let behind = matcher::moved(p, table, before, false, input);
-    if stamp + 2 * p.lb <= t {
-        let direct = matcher::moved(p, table, after, true, act);
+    if held + 2 * p.lb <= stamp {
+        let direct = matcher::moved(p, table, after, true, action);
         return matcher::joined(direct, behind);
     }
     behind
 }
 
-// An output goes through the cuts.
+// An output goes through the cuts of property j.
 pub fn sweep(
     p: Property,
-    table: &[u8; 4257],
-    held: &[u64; 64],
-    acts: &[u8; 64],
-    masks: &mut [u64; 65],
-    marks: &mut [u64; 65],
-    count: usize,
-    act: u8,
-    t: u64,
+    table: &Table,
+    rows: &mut [Words],
+    span: Span,
+    j: usize,
+    action: u64,
+    stamp: u64,
 )
-    requires { ⌜ Usable p (now held) (now acts) count (row (now masks) (now marks)) × IsTable p (now table) ⌝ }
-    ensures { λ _. ⌜ Swept p (now (held .entry)) (now (acts .entry)) count act t (row (now (masks .entry)) (now (marks .entry))) (row (now (masks .exit)) (now (marks .exit))) ⌝ }
+    requires { ⌜ Usable p (now rows) span j × IsTable p (now table) ⌝ }
+    ensures { λ _. ⌜ Swept p span j action stamp (now (rows .entry)) (now (rows .exit)) ⌝ }
 {
-    let mut cut = matcher::moved(p, table, cut_at(masks, marks, 0), true, act);
+    let count = span.count;
+    let mut cut = matcher::moved(p, table, cut_at(rows, span, j, 0), true, action);
     let mut i = 0;
     while i < count {
-        let after = cut_at(masks, marks, i + 1);
-        let next = swept_cut(p, table, act, t, held[i], acts[i], cut, after);
-        masks[i] = cut.mask;
-        marks[i] = cut.marks;
+        let after = cut_at(rows, span, j, i + 1);
+        let held = rows::word(rows, span, 0, i);
+        let input = rows::word(rows, span, 1, i);
+        let next = swept_cut(p, table, action, stamp, held, input, cut, after);
+        put_cut(rows, span, j, i, cut);
         cut = next;
         i += 1;
     }
-    masks[count] = cut.mask;
-    marks[count] = cut.marks;
+    put_cut(rows, span, j, count, cut);
 }
 
-// A new input comes last: one more cut behind it.
-pub fn append(
-    p: Property,
-    table: &[u8; 4257],
-    masks: &mut [u64; 65],
-    marks: &mut [u64; 65],
-    count: usize,
-    act: u8,
-)
-    requires { ⌜ (property-refusal (meant p) ≡ 0) × IsTable p (now table) × (count < most-open) × Fits p (cut-at (row (now masks) (now marks)) count) ⌝ }
-    ensures { λ _. ⌜ Appended p count act (row (now (masks .entry)) (now (marks .entry))) (row (now (masks .exit)) (now (marks .exit))) ⌝ }
+// A new input comes last: one more cut of property j behind it.
+pub fn append(p: Property, table: &Table, rows: &mut [Words], span: Span, j: usize, action: u64)
+    requires { ⌜ Usable p (now rows) span j × IsTable p (now table) × (span .count < 64) ⌝ }
+    ensures { λ _. ⌜ Appended p span j action (now (rows .entry)) (now (rows .exit)) ⌝ }
 {
-    let last = cut_at(masks, marks, count);
-    let cut = matcher::moved(p, table, last, false, act);
-    masks[count + 1] = cut.mask;
-    marks[count + 1] = cut.marks;
+    let count = span.count;
+    let last = cut_at(rows, span, j, count);
+    let cut = matcher::moved(p, table, last, false, action);
+    put_cut(rows, span, j, count + 1, cut);
 }
 
 // One line of a run, taken: the first `closed` open inputs give their places up, then an output goes through the cuts, or an
-// input comes last. The number open comes back.
+// input comes last.
 pub fn take_line(
     p: Property,
-    table: &[u8; 4257],
-    held: &mut [u64; 64],
-    acts: &mut [u8; 64],
-    masks: &mut [u64; 65],
-    marks: &mut [u64; 65],
-    count: usize,
+    table: &Table,
+    rows: &mut [Words],
+    span: Span,
     closed: usize,
-    out: bool,
-    act: u8,
-    t: u64,
-) -> usize
-    requires { ⌜ Usable p (now held) (now acts) count (row (now masks) (now marks)) × IsTable p (now table) ⌝ }
-    requires { ⌜ Closes (p .ub) (now held) count t closed × (t ≤ last-stamp) × (out ≡ false → count - closed < most-open) ⌝ }
-    ensures { λ r. ⌜ Holds p
-        (front-after p (front-of (now (held .entry)) (now (acts .entry)) count (row (now (masks .entry)) (now (marks .entry)))) (line-of out act t))
-        (now (held .exit)) (now (acts .exit)) r (row (now (masks .exit)) (now (marks .exit))) ⌝ }
+    output: bool,
+    action: u64,
+    stamp: u64,
+) -> Span
+    requires { ⌜ Usable p (now rows) span 0 × IsTable p (now table) ⌝ }
+    requires { ⌜ Closes (p .ub) (now rows) span stamp closed × (stamp ≤ last-stamp) × (output ≡ false → span .count - closed < 64) ⌝ }
+    ensures { λ r. ⌜ Holds p (front-after p (front-of (now (rows .entry)) span 0) (line-of output action stamp)) (now (rows .exit)) r 0 ⌝ }
 {
-    let left = count - closed;
-    held::drop_first(held, acts, count, closed);
-    drop_first(masks, marks, count, closed);
-    if out {
-        sweep(p, table, held, acts, masks, marks, left, act, t);
+    let left = rows::dropped(rows, span, closed);
+    if output {
+        sweep(p, table, rows, left, 0, action, stamp);
         return left;
     }
-    append(p, table, masks, marks, left, act);
-    held::append(held, acts, left, act, t);
-    left + 1
+    append(p, table, rows, left, 0, action);
+    held::append(rows, left, action, stamp);
+    rows::longer(left)
 }

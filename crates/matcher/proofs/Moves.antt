@@ -118,10 +118,10 @@ stepped-or n f s t j =
     some-to-agree n (λ k. (s k || t k) && eqb (f k) j) (λ k. (s k && eqb (f k) j) || (t k && eqb (f k) j)) (λ k h. and-or (s k) (t k) (eqb (f k) j))
     ∙ some-to-or n (λ k. s k && eqb (f k) j) (λ k. t k && eqb (f k) j)
 
-module _ (p : Property) (table : List ℕ) (is : IsTable p table) (out : Bool) (act at : ℕ)
-    (row : at ≡ row-of out act) where
-  entry-is : (k : ℕ) → k ≤ p .n → getD table (at + k) 0 ≡ matched-next (meant p .sequence) k (action-of out act)
-  entry-is k h = ap (λ (x : ℕ). getD table (x + k) 0) row ∙ is .looked-up out act k h
+module _ (p : Property) (table : List ℕ) (is : IsTable p table) (output : Bool) (action at : ℕ)
+    (row : at ≡ row-of output action) where
+  entry-is : (k : ℕ) → k ≤ p .n → getD table (at + k) 0 ≡ matched-next (meant p .sequence) k (action-of output action)
+  entry-is k h = ap (λ (x : ℕ). getD table (x + k) 0) row ∙ is .looked-up output action k h
 
   long : length (meant p .sequence) ≡ p .n
   long = length-first (action-at (p .output) (p .number)) (p .n)
@@ -129,11 +129,11 @@ module _ (p : Property) (table : List ℕ) (is : IsTable p table) (out : Bool) (
   pub entry-le : (k : ℕ) → k ≤ p .n → getD table (at + k) 0 ≤ p .n
   entry-le k h =
       subst (λ (x : ℕ). x ≤ p .n) (sym (entry-is k h))
-      (subst (λ (x : ℕ). matched-next (meant p .sequence) k (action-of out act) ≤ x) long
-      (fall-back-le (λ i. getD (meant p .sequence) i (Action.input 0)) (length (meant p .sequence)) k k (action-of out act)))
+      (subst (λ (x : ℕ). matched-next (meant p .sequence) k (action-of output action) ≤ x) long
+      (fall-back-le (λ i. getD (meant p .sequence) i (Action.input 0)) (length (meant p .sequence)) k k (action-of output action)))
 
   abbrev a : Action
-  a = action-of out act
+  a = action-of output action
 
   abbrev f : ℕ → ℕ
   f k = getD table (at + k) 0
@@ -143,13 +143,18 @@ module _ (p : Property) (table : List ℕ) (is : IsTable p table) (out : Bool) (
 
   -- the lengths of a set that an action leads to, from those that are armed or from the others
   part : (ℕ → Bool) → Bool → Bool → ℕ → Bool
-  part s b armed j = some-to (length (meant p .sequence)) (λ k. s k && is-matched armed j (cond (b && outside (meant p) a) State.broken (matched-on (meant p) b a (next k))))
+  part s b armed j =
+      some-to (length (meant p .sequence))
+      (λ k. s k && is-matched armed j (cond (b && outside (meant p) a) State.broken (matched-on (meant p) b a (next k))))
 
   part-on : (s : ℕ → Bool) (b c armed : Bool) (j : ℕ) → b && outside (meant p) a ≡ false → b && is-input a ≡ c
       → part s b armed j ≡ stepped (p .n) f s j && cond armed (eqb j (p .n) || c) (not (eqb j (p .n) || c))
   unfolding part
   part-on s b c armed j o i =
-      ap (λ (n : ℕ). some-to n (λ k. s k && is-matched armed j (cond (b && outside (meant p) a) State.broken (State.matched (eqb (next k) n || (b && is-input a)) (next k))))) long
+      ap
+      (λ (n : ℕ).
+      some-to n (λ k. s k && is-matched armed j (cond (b && outside (meant p) a) State.broken (State.matched (eqb (next k) n || (b && is-input a)) (next k)))))
+      long
       ∙ some-to-agree (p .n)
       (λ k. s k && is-matched armed j (cond (b && outside (meant p) a) State.broken (State.matched (eqb (next k) (p .n) || (b && is-input a)) (next k))))
       (λ k. s k && (eqb (f k) j && cond armed (eqb j (p .n) || c) (not (eqb j (p .n) || c))))
@@ -218,12 +223,14 @@ module _ (p : Property) (table : List ℕ) (is : IsTable p table) (out : Bool) (
             ≡ part (s .at false) false armed j || part (s .at true) true armed j
         same true j =
             ap₂ (λ (x y : Bool). x || y)
-            (ap (λ (x : Bool). stepped (p .n) f (s .at false) j && x) (sym (or-false (eqb j (p .n)))) ∙ sym (part-on (s .at false) false false true j refl refl))
+            (ap (λ (x : Bool). stepped (p .n) f (s .at false) j && x) (sym (or-false (eqb j (p .n))))
+            ∙ sym (part-on (s .at false) false false true j refl refl))
             (sym (part-on (s .at true) true true true j o i ∙ whole (stepped (p .n) f (s .at true) j) (eqb j (p .n))))
         same false j =
             sym (or-false (stepped (p .n) f (s .at false) j && not (eqb j (p .n))))
             ∙ ap₂ (λ (x y : Bool). x || y)
-            (ap (λ (x : Bool). stepped (p .n) f (s .at false) j && not x) (sym (or-false (eqb j (p .n)))) ∙ sym (part-on (s .at false) false false false j refl refl))
+            (ap (λ (x : Bool). stepped (p .n) f (s .at false) j && not x) (sym (or-false (eqb j (p .n))))
+            ∙ sym (part-on (s .at false) false false false j refl refl))
             (sym (part-on (s .at true) true true false j o i ∙ none (stepped (p .n) f (s .at true) j) (eqb j (p .n))))
 
     -- An output: nothing stays armed but whole matches.
@@ -263,12 +270,12 @@ module _ (p : Property) (table : List ℕ) (is : IsTable p table) (out : Bool) (
         (ap₂ (λ (x y : Bool). s .with-broken || (x || y)) (sym (lost-none (s .at false) false refl)) (sym (lost-all (s .at true) o)))
 
 -- "an output outside the allowed set", told from the mask of allowed outputs.
-module _ (p : Property) (allowed act : ℕ) (out : Bool) (q : p .allowed ≡ allowed) where
-  pub output-outside : out ≡ true → not (bit allowed act) ≡ outside (meant p) (action-of out act)
-  output-outside e = ap (λ (x : ℕ). not (bit x act)) (sym q) ∙ ap (λ (o : Bool). outside (meant p) (action-of o act)) (sym e)
+module _ (p : Property) (allowed action : ℕ) (output : Bool) (q : p .allowed ≡ allowed) where
+  pub output-outside : output ≡ true → not (bit allowed action) ≡ outside (meant p) (action-of output action)
+  output-outside e = ap (λ (x : ℕ). not (bit x action)) (sym q) ∙ ap (λ (o : Bool). outside (meant p) (action-of o action)) (sym e)
 
-  pub unnamed-outside : out ≡ true → allowed < 2 ^ 64 → 64 ≤ act → true ≡ outside (meant p) (action-of out act)
-  unnamed-outside e h l = ap not (sym (bit-above 64 allowed act h l)) ∙ output-outside e
+  pub unnamed-outside : output ≡ true → allowed < 2 ^ 64 → 64 ≤ action → true ≡ outside (meant p) (action-of output action)
+  unnamed-outside e h l = ap not (sym (bit-above 64 allowed action h l)) ∙ output-outside e
 
-  pub input-inside : out ≡ false → false ≡ outside (meant p) (action-of out act)
-  input-inside e = ap (λ (o : Bool). outside (meant p) (action-of o act)) (sym e)
+  pub input-inside : output ≡ false → false ≡ outside (meant p) (action-of output action)
+  input-inside e = ap (λ (o : Bool). outside (meant p) (action-of o action)) (sym e)

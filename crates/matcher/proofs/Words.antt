@@ -28,20 +28,20 @@ use Rattle.property.specs.Meant.{meant}
 use Rattle.property.specs.declared.Property.{Property}
 use Rattle.matcher.specs.declared.Cut.{Cut}
 use Rattle.table.specs.Table.{action-at}
-use Rattle.matcher.specs.Sets.{set-of, marked, cut-of, stray, Fits, set-verdict, Short, arranged, Arranged}
+use Rattle.matcher.specs.Sets.{set-of, armed-bits, cut-of, stray, Fits, set-verdict, Short, arranged, Arranged}
 use Rattle.matcher.proofs.Moves.{below-whole, whole-alone}
 
 -- ---- words in their range
 
-pub fits-parts : (p : Property) (c : Cut) → Fits p c → (c .mask < 2 ^ suc (p .n)) × (c .marks < 2 ^ suc (suc (p .n)))
+pub fits-parts : (p : Property) (c : Cut) → Fits p c → (c .mask < 2 ^ suc (p .n)) × (c .armed < 2 ^ suc (suc (p .n)))
 unfolding stray
 fits-parts p c e =
-    let r = or-split (leb (2 ^ suc (p .n)) (c .mask)) (leb (2 ^ suc (suc (p .n))) (c .marks)) e in
-    (leb-false (2 ^ suc (p .n)) (c .mask) (r .0), leb-false (2 ^ suc (suc (p .n))) (c .marks) (r .1))
+    let r = or-split (leb (2 ^ suc (p .n)) (c .mask)) (leb (2 ^ suc (suc (p .n))) (c .armed)) e in
+    (leb-false (2 ^ suc (p .n)) (c .mask) (r .0), leb-false (2 ^ suc (suc (p .n))) (c .armed) (r .1))
 
-pub parts-fit : (p : Property) (c : Cut) → c .mask < 2 ^ suc (p .n) → c .marks < 2 ^ suc (suc (p .n)) → Fits p c
+pub parts-fit : (p : Property) (c : Cut) → c .mask < 2 ^ suc (p .n) → c .armed < 2 ^ suc (suc (p .n)) → Fits p c
 unfolding stray
-parts-fit p c h m = neither (lt-leb (2 ^ suc (p .n)) (c .mask) h) (lt-leb (2 ^ suc (suc (p .n))) (c .marks) m)
+parts-fit p c h m = neither (lt-leb (2 ^ suc (p .n)) (c .mask) h) (lt-leb (2 ^ suc (suc (p .n))) (c .armed) m)
 
 -- the armed lengths, as a mask of their own
 pub armed-lt : (n m : ℕ) → m < 2 ^ suc (suc n) → m / 2 < 2 ^ suc n
@@ -81,18 +81,18 @@ module _ (p : Property) (formed : property-refusal (meant p) ≡ 0) where
   unfolding set-of cut-of
   cut-back c e =
       let r = fits-parts p c e in
-      ap₂ (λ (x y : ℕ). record { mask = x; marks = y })
+      ap₂ (λ (x y : ℕ). record { mask = x; armed = y })
       (mask-bit 64 (c .mask) (omega (arith, wide, r .0)))
-      (mask-ext 64 (marked (set-of c)) (bit (c .marks)) same ∙ mask-bit 64 (c .marks) (omega (arith, wider, r .1)))
+      (mask-ext 64 (armed-bits (set-of c)) (bit (c .armed)) same ∙ mask-bit 64 (c .armed) (omega (arith, wider, r .1)))
     where
-      same : (k : ℕ) → k < 64 → marked (set-of c) k ≡ bit (c .marks) k
+      same : (k : ℕ) → k < 64 → armed-bits (set-of c) k ≡ bit (c .armed) k
       same zero h = refl
       same (suc k) h = refl
 
   -- from a set to its words and back
   pub set-back : (s : Lengths) → Short (meant p) s → set-of (cut-of s) ≡ s
   unfolding set-of cut-of
-  set-back s h = λ i. record { at = fun-ext (λ armed. fun-ext (same armed)) i; with-broken = bit-mask 64 (marked s) 0 (omega arith) i }
+  set-back s h = λ i. record { at = fun-ext (λ armed. fun-ext (same armed)) i; with-broken = bit-mask 64 (armed-bits s) 0 (omega arith) i }
     where
       stored : (g : ℕ → Bool) (k : ℕ) → (64 ≤ k → g k ≡ false) → bit (mask-to 64 g) k ≡ g k
       stored g k none = go (ltb k 64) (ltb-true k 64) (ltb-false k 64)
@@ -101,8 +101,8 @@ module _ (p : Property) (formed : property-refusal (meant p) ≡ 0) where
           go true y n = bit-mask 64 g k (y refl)
           go false y n = bit-above 64 (mask-to 64 g) k (mask-lt 64 g) (n refl) ∙ sym (none (n refl))
 
-      same : (armed : Bool) (k : ℕ) → cond armed (bit (mask-to 64 (marked s)) (suc k)) (bit (mask-to 64 (s .at false)) k) ≡ s .at armed k
-      same true k = stored (marked s) (suc k) (λ far. h .none-above true k (omega (arith, few, long)))
+      same : (armed : Bool) (k : ℕ) → cond armed (bit (mask-to 64 (armed-bits s)) (suc k)) (bit (mask-to 64 (s .at false)) k) ≡ s .at armed k
+      same true k = stored (armed-bits s) (suc k) (λ far. h .none-above true k (omega (arith, few, long)))
       same false k = stored (s .at false) k (λ far. h .none-above false k (omega (arith, few, long)))
 
   pub short-fits : (s : Lengths) → Short (meant p) s → Fits p (cut-of s)
@@ -110,9 +110,9 @@ module _ (p : Property) (formed : property-refusal (meant p) ≡ 0) where
   short-fits s h =
       parts-fit p (cut-of s)
       (low-mask (suc (p .n)) 64 (s .at false) (omega (arith, few)) (λ k l. h .none-above false k (omega (arith, long))))
-      (low-mask (suc (suc (p .n))) 64 (marked s) (omega (arith, few)) none)
+      (low-mask (suc (suc (p .n))) 64 (armed-bits s) (omega (arith, few)) none)
     where
-      none : (k : ℕ) → suc (suc (p .n)) ≤ k → marked s k ≡ false
+      none : (k : ℕ) → suc (suc (p .n)) ≤ k → armed-bits s k ≡ false
       none zero l = let z : ⊥ = omega arith in absurd z
       none (suc k) l = h .none-above true k (omega (arith, long))
 
@@ -120,8 +120,8 @@ module _ (p : Property) (formed : property-refusal (meant p) ≡ 0) where
   unfolding set-of
   fits-short c e = record { none-above = none }
     where
-      none : (armed : Bool) (k : ℕ) → length (meant p .sequence) < k → cond armed (bit (c .marks) (suc k)) (bit (c .mask) k) ≡ false
-      none true k h = bit-above (suc (suc (p .n))) (c .marks) (suc k) (fits-parts p c e .1) (omega (arith, long))
+      none : (armed : Bool) (k : ℕ) → length (meant p .sequence) < k → cond armed (bit (c .armed) (suc k)) (bit (c .mask) k) ≡ false
+      none true k h = bit-above (suc (suc (p .n))) (c .armed) (suc k) (fits-parts p c e .1) (omega (arith, long))
       none false k h = bit-above (suc (p .n)) (c .mask) k (fits-parts p c e .0) (omega (arith, long))
 
 -- ---- sets of the meaning keep to the lengths of the sequence
@@ -172,20 +172,20 @@ some-in-mask n m low = go (eqb m 0) (eqb-true m 0) (eqb-false m 0)
 pub armed-is : (m : ℕ) → (λ (k : ℕ). bit m (suc k)) ≡ bit (m / 2)
 armed-is m = fun-ext (λ k. bit-suc m k)
 
-unbroken-read : (p : Property) (c : Cut) → Fits p c → some-length (meant p) (set-of c) ≡ not (eqb (c .mask) 0) || not (eqb (c .marks / 2) 0)
+unbroken-read : (p : Property) (c : Cut) → Fits p c → some-length (meant p) (set-of c) ≡ not (eqb (c .mask) 0) || not (eqb (c .armed / 2) 0)
 unfolding set-of
 unbroken-read p c e =
-    ap₂ (λ (x y : Bool). x || y) (plain (bit (c .mask))) (plain (λ k. bit (c .marks) (suc k)) ∙ ap (some-to (p .n)) (armed-is (c .marks)))
+    ap₂ (λ (x y : Bool). x || y) (plain (bit (c .mask))) (plain (λ k. bit (c .armed) (suc k)) ∙ ap (some-to (p .n)) (armed-is (c .armed)))
     ∙ ap₂ (λ (x y : Bool). x || y)
     (some-in-mask (p .n) (c .mask) (fits-parts p c e .0))
-    (some-in-mask (p .n) (c .marks / 2) (armed-lt (p .n) (c .marks) (fits-parts p c e .1)))
+    (some-in-mask (p .n) (c .armed / 2) (armed-lt (p .n) (c .armed) (fits-parts p c e .1)))
   where
     plain : (f : ℕ → Bool) → some-to (length (meant p .sequence)) (λ k. f k && true) ≡ some-to (p .n) f
     plain f =
         ap (λ (n : ℕ). some-to n (λ k. f k && true)) (length-first (action-at (p .output) (p .number)) (p .n))
         ∙ some-to-agree (p .n) (λ k. f k && true) f (λ k h. and-true (f k))
 
-pub verdict-read : (p : Property) (c : Cut) → Fits p c → (b u : Bool) → b ≡ bit (c .marks) 0 → u ≡ not (eqb (c .mask) 0) || not (eqb (c .marks / 2) 0)
+pub verdict-read : (p : Property) (c : Cut) → Fits p c → (b u : Bool) → b ≡ bit (c .armed) 0 → u ≡ not (eqb (c .mask) 0) || not (eqb (c .armed / 2) 0)
     → verdict-number (verdict-of (meant p) (lengths (meant p)) b u) ≡ verdict-number (set-verdict p (set-of c))
 unfolding set-of
 verdict-read p c e b u x y =
@@ -193,21 +193,21 @@ verdict-read p c e b u x y =
 
 -- ---- two sets joined
 
-pub joined-set : (a b : Cut) → set-of (record { mask = bitOr (a .mask) (b .mask); marks = bitOr (a .marks) (b .marks) }) ≡ either (set-of a) (set-of b)
+pub joined-set : (a b : Cut) → set-of (record { mask = bitOr (a .mask) (b .mask); armed = bitOr (a .armed) (b .armed) }) ≡ either (set-of a) (set-of b)
 unfolding set-of
 joined-set a b =
-    ap₂ (λ (f : Bool → ℕ → Bool) (x : Bool). record { at = f; with-broken = x }) (fun-ext (λ armed. fun-ext (same armed))) (bit-or (a .marks) (b .marks) 0)
+    ap₂ (λ (f : Bool → ℕ → Bool) (x : Bool). record { at = f; with-broken = x }) (fun-ext (λ armed. fun-ext (same armed))) (bit-or (a .armed) (b .armed) 0)
   where
-    same : (armed : Bool) (k : ℕ) → cond armed (bit (bitOr (a .marks) (b .marks)) (suc k)) (bit (bitOr (a .mask) (b .mask)) k)
-        ≡ cond armed (bit (a .marks) (suc k)) (bit (a .mask) k) || cond armed (bit (b .marks) (suc k)) (bit (b .mask) k)
-    same true k = bit-or (a .marks) (b .marks) (suc k)
+    same : (armed : Bool) (k : ℕ) → cond armed (bit (bitOr (a .armed) (b .armed)) (suc k)) (bit (bitOr (a .mask) (b .mask)) k)
+        ≡ cond armed (bit (a .armed) (suc k)) (bit (a .mask) k) || cond armed (bit (b .armed) (suc k)) (bit (b .mask) k)
+    same true k = bit-or (a .armed) (b .armed) (suc k)
     same false k = bit-or (a .mask) (b .mask) k
 
-pub joined-fits : (p : Property) (a b : Cut) → Fits p a → Fits p b → Fits p (record { mask = bitOr (a .mask) (b .mask); marks = bitOr (a .marks) (b .marks) })
+pub joined-fits : (p : Property) (a b : Cut) → Fits p a → Fits p b → Fits p (record { mask = bitOr (a .mask) (b .mask); armed = bitOr (a .armed) (b .armed) })
 joined-fits p a b h k =
-    parts-fit p (record { mask = bitOr (a .mask) (b .mask); marks = bitOr (a .marks) (b .marks) })
+    parts-fit p (record { mask = bitOr (a .mask) (b .mask); armed = bitOr (a .armed) (b .armed) })
     (or-lt (suc (p .n)) (a .mask) (b .mask) (fits-parts p a h .0) (fits-parts p b k .0))
-    (or-lt (suc (suc (p .n))) (a .marks) (b .marks) (fits-parts p a h .1) (fits-parts p b k .1))
+    (or-lt (suc (suc (p .n))) (a .armed) (b .armed) (fits-parts p a h .1) (fits-parts p b k .1))
 
 -- ---- the words that the code puts together
 
@@ -223,7 +223,7 @@ pub with-lt : (m : ℕ) (b : Bool) → m < 2 → cond b 1 m < 2
 with-lt m true h = omega arith
 with-lt m false h = h
 
--- bit 0 of the marks, told from their last digit
+-- bit 0 of the armed word, told from its last digit
 pub lowest-digit : (m : ℕ) → bit (m % 2) 0 ≡ bit m 0
 lowest-digit m = bit-zero (m % 2) ∙ ap (λ (x : ℕ). eqb x 1) (let e : m % 2 % 2 ≡ m % 2 = omega arith in e) ∙ sym (bit-zero m)
 
@@ -231,13 +231,13 @@ module _ (n free still broken : ℕ) (f : free < 2 ^ suc n) (s : still < 2 ^ suc
   up-lt : bitOr (free - free % 2 ^ n) still < 2 ^ suc n
   up-lt = or-lt (suc n) (free - free % 2 ^ n) still (omega arith) s
 
-  pub arranged-words : Arranged n free still broken (record { mask = free % 2 ^ n; marks = bitOr (free - free % 2 ^ n) still * 2 + broken })
+  pub arranged-words : Arranged n free still broken (record { mask = free % 2 ^ n; armed = bitOr (free - free % 2 ^ n) still * 2 + broken })
   unfolding set-of
   arranged-words =
       record {
         set = ap₂ (λ (g : Bool → ℕ → Bool) (x : Bool). record { at = g; with-broken = x }) (fun-ext (λ armed. fun-ext (at armed))) low-bit;
         low-mask = let l : free % 2 ^ n ≤ free = mod-le free (2 ^ n) in omega arith;
-        low-marks = let e : 2 ^ suc (suc n) ≡ 2 ^ suc n * 2 = pow-suc 2 (suc n) in omega (arith, up-lt);
+        low-armed = let e : 2 ^ suc (suc n) ≡ 2 ^ suc n * 2 = pow-suc 2 (suc n) in omega (arith, up-lt);
       }
     where
       half : (u : ℕ) → (u * 2 + broken) / 2 ≡ u

@@ -15,22 +15,22 @@ use Rattle.property.specs.Meant.{meant}
 use Rattle.property.specs.declared.Property.{Property}
 use Rattle.matcher.specs.declared.Cut.{Cut}
 
--- The set that two words stand for: bit k of the mask is set where length k is in it, not armed; bit k + 1 of the marks where length k
--- is in it, armed; bit 0 of the marks where broken is.
+-- The set that two words stand for: bit k of the mask is set where length k is in it, not armed; bit k + 1 of the other word where
+-- length k is in it, armed; bit 0 of the other word where broken is.
 unfoldable pub set-of : Cut → Lengths
-set-of c = record { at = λ armed k. cond armed (bit (c .marks) (suc k)) (bit (c .mask) k); with-broken = bit (c .marks) 0 }
+set-of c = record { at = λ armed k. cond armed (bit (c .armed) (suc k)) (bit (c .mask) k); with-broken = bit (c .armed) 0 }
 
 -- The way back.
-abbrev pub marked : Lengths → ℕ → Bool
-marked s zero = s .with-broken
-marked s (suc k) = s .at true k
+abbrev pub armed-bits : Lengths → ℕ → Bool
+armed-bits s zero = s .with-broken
+armed-bits s (suc k) = s .at true k
 
 unfoldable pub cut-of : Lengths → Cut
-cut-of s = record { mask = mask-to 64 (s .at false); marks = mask-to 64 (marked s) }
+cut-of s = record { mask = mask-to 64 (s .at false); armed = mask-to 64 (armed-bits s) }
 
 -- "a matched length above the sequence's", of n actions, in the one word or the other.
 unfoldable pub stray : ℕ → Cut → Bool
-stray n c = leb (2 ^ suc n) (c .mask) || leb (2 ^ suc (suc n)) (c .marks)
+stray n c = leb (2 ^ suc n) (c .mask) || leb (2 ^ suc (suc n)) (c .armed)
 
 -- The words are those of a set for a property.
 abbrev pub Fits : Property → Cut → Type 0
@@ -57,7 +57,7 @@ arranged n free still broken =
 pub record Arranged (n free still broken : ℕ) (c : Cut) : Type 0 where
   pub set : set-of c ≡ arranged n (bit free) (bit still) (bit broken 0)
   pub low-mask : c .mask < 2 ^ suc n
-  pub low-marks : c .marks < 2 ^ suc (suc n)
+  pub low-armed : c .armed < 2 ^ suc (suc n)
 
 -- What an action leads to, and two sets joined: the meaning's, in words of the same property.
 pub record Moved (p : Property) (before : Cut) (action : Action) (after : Cut) : Type 0 where

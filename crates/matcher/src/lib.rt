@@ -15,11 +15,12 @@ ghost use Rattle.matcher.specs.Sets;
 ghost use Rattle.matcher.specs.Sets.{set-of, cut-of, Fits, set-verdict, stepped, Arranged, Moved, Joined};
 use limits::LAST_ACTION;
 use property::Property;
+use table::Table;
 
-// The matched lengths that are not armed as a mask, and marks beside them: bit 0 is broken, bit k + 1 is length k, armed.
+// The matched lengths that are not armed as a mask, and the armed word beside it: bit k + 1 is length k, armed, and bit 0 is broken.
 pub struct Cut {
     pub mask: u64,
-    pub marks: u64,
+    pub armed: u64,
 }
 
 const BROKEN: u64 = 1;
@@ -28,14 +29,14 @@ const BROKEN: u64 = 1;
 pub fn start() -> Cut
     ensures { λ r. ⌜ r ≡ cut-of Matcher.at-start ⌝ }
 {
-    Cut { mask: 1, marks: 0 }
+    Cut { mask: 1, armed: 0 }
 }
 
 // The empty set.
 pub fn none() -> Cut
     ensures { λ r. ⌜ r ≡ cut-of Matcher.none-of ⌝ }
 {
-    Cut { mask: 0, marks: 0 }
+    Cut { mask: 0, armed: 0 }
 }
 
 // The words are those of no set for a sequence of n actions: a matched length above n in one of them.
@@ -46,27 +47,27 @@ pub fn stray(n: usize, cut: Cut) -> bool
     if 0 < cut.mask >> (n + 1) {
         return true;
     }
-    0 < cut.marks >> (n + 2)
+    0 < cut.armed >> (n + 2)
 }
 
 // The verdict's number, where the set is that of every explanation.
 pub fn verdict(cut: Cut) -> u8
     ensures { λ r. ⌜ ((p : Property) → Fits p cut → r ≡ verdict-number (set-verdict p (set-of cut))) ⌝ }
 {
-    if cut.marks % 2 == 0 {
+    if cut.armed % 2 == 0 {
         return 0;
     }
     if 0 < cut.mask {
         return 1;
     }
-    if 0 < cut.marks / 2 {
+    if 0 < cut.armed / 2 {
         return 1;
     }
     2
 }
 
 // The set of lengths that a set goes to by a row of the table.
-fn step(table: &[u8; 4257], at: usize, n: usize, mask: u64) -> u64
+fn step(table: &Table, at: usize, n: usize, mask: u64) -> u64
     requires { ⌜ (n ≤ 32) × (at ≤ 4224) × (mask < 2 ^ suc n) ⌝ }
     requires { ⌜ ((k : ℕ) → k ≤ n → getD (now table) (at + k) 0 ≤ n) ⌝ }
     ensures { λ r. ⌜ ((j : ℕ) → bit r j ≡ stepped n (λ k. getD (now (table .entry)) (at + k) 0) (bit mask) j) × (r < 2 ^ suc n) ⌝ }
@@ -82,12 +83,12 @@ fn step(table: &[u8; 4257], at: usize, n: usize, mask: u64) -> u64
 }
 
 // "an output outside the allowed set"
-fn outside(allowed: u64, out: bool, act: u8) -> bool
-    ensures { λ r. ⌜ ((p : Property) → p .allowed ≡ allowed → r ≡ Matcher.outside (meant p) (action-of out act)) ⌝ }
+fn outside(allowed: u64, output: bool, action: u64) -> bool
+    ensures { λ r. ⌜ ((p : Property) → p .allowed ≡ allowed → r ≡ Matcher.outside (meant p) (action-of output action)) ⌝ }
 {
-    if out {
-        if act <= LAST_ACTION {
-            return (allowed >> act) % 2 != 1;
+    if output {
+        if action <= LAST_ACTION as u64 {
+            return (allowed >> action) % 2 != 1;
         }
         return true;
     }
@@ -120,30 +121,30 @@ fn arranged(n: usize, free: u64, still: u64, broken: u64) -> Cut
     let up = both(free - low, still);
     Cut {
         mask: low,
-        marks: up * 2 + broken,
+        armed: up * 2 + broken,
     }
 }
 
 // The states that those of a cut move to at an action: an output outside the set breaks those that are armed, an allowed one
 // disarms them, an input keeps them armed.
-pub fn moved(p: Property, table: &[u8; 4257], cut: Cut, out: bool, act: u8) -> Cut
+pub fn moved(p: Property, table: &Table, cut: Cut, output: bool, action: u64) -> Cut
     requires { ⌜ (property-refusal (meant p) ≡ 0) × IsTable p (now table) × Fits p cut ⌝ }
-    ensures { λ r. ⌜ Moved p cut (action-of out act) r ⌝ }
+    ensures { λ r. ⌜ Moved p cut (action-of output action) r ⌝ }
 {
     let n = p.n;
-    let at = table::row(out, act);
-    let armed = cut.marks / 2;
-    let broken = cut.marks % 2;
-    if out {
-        if outside(p.allowed, out, act) {
+    let at = table::row(output, action);
+    let armed_lengths = cut.armed / 2;
+    let broken = cut.armed % 2;
+    if output {
+        if outside(p.allowed, output, action) {
             let free = step(table, at, n, cut.mask);
-            return arranged(n, free, 0, with_broken(broken, 0 < armed));
+            return arranged(n, free, 0, with_broken(broken, 0 < armed_lengths));
         }
-        let free = step(table, at, n, both(cut.mask, armed));
+        let free = step(table, at, n, both(cut.mask, armed_lengths));
         return arranged(n, free, 0, broken);
     }
     let free = step(table, at, n, cut.mask);
-    let still = step(table, at, n, armed);
+    let still = step(table, at, n, armed_lengths);
     arranged(n, free, still, broken)
 }
 
@@ -153,6 +154,6 @@ pub fn joined(a: Cut, b: Cut) -> Cut
 {
     Cut {
         mask: a.mask | b.mask,
-        marks: a.marks | b.marks,
+        armed: a.armed | b.armed,
     }
 }

@@ -1,7 +1,7 @@
 -- Full histories: what the watcher is blind to, and that from a boundary on its verdict is the one over everything.
 use Prim.Native.Nat.{ℕ, zero, suc, _+_, _*_, _≤_, _<_, max}
 use mathlib.Core.Path.{_≡_, refl, sym, _∙_, ap, subst}
-use mathlib.Core.Bool.{Bool, true, false, cond}
+use mathlib.Core.Bool.{true, false}
 use mathlib.Core.List.{List, [], _∷_, _++_, append-assoc, append-nil}
 use native.Mathlib.Omega.{arith}
 use native.Mathlib.Nat.{le-refl, le-trans}
@@ -9,21 +9,16 @@ use borrow.Author.Tests.{lt-ltb, le-ltb}
 use Rattle.meaning.specs.Words.{Property, Line, Run, StampsFrom}
 use Rattle.meaning.specs.Node.{Verdict, VerdictFor}
 use Rattle.meaning.specs.Numbers.{given, action-above}
-use Rattle.meaning.specs.Calls.{Mark, Call, Watch, fresh, beyond, with-line, stamp-refusal, refusal}
+use Rattle.meaning.specs.Calls.{Mark, Call, Clock, ticked, stamp-refusal, beyond, Watch, fresh, with-line, with-mark, refusal}
 use Rattle.meaning.specs.Calls.{taken, unless-refused, next, watched, AllTaken, kept, Standing}
 use Rattle.meaning.specs.History.{Event, fed, all-lines, MarkedBy, LostMarked, Premises, stamp-of, highest, Quiet, NoMark, BreaksAfter}
 use Rattle.meaning.proofs.Lists.{All, done, also, all-map, all-ins, all-outs, from-all}
 use Rattle.meaning.proofs.Pairs.{Bounds}
 use Rattle.meaning.proofs.Channels.{from-right}
 use Rattle.meaning.proofs.Refusals.{first-of-none}
+use Rattle.meaning.proofs.Clocks.{open-watch, blind-watch, by-time-is, by-time-each}
 use Rattle.meaning.proofs.Calls.{not-refused-stamp, not-refused-mark}
 use Rattle.meaning.proofs.Boundary.{whole-verdict}
-
-abbrev blind-watch : ℕ → Watch
-blind-watch t = record { is-blind = true; run = []; latest = t }
-
-abbrev pub open-watch : Run → ℕ → Watch
-open-watch run t = record { is-blind = false; run = run; latest = t }
 
 -- the lines among calls
 pub call-lines : List Call → List Line
@@ -35,11 +30,11 @@ module _ (p : Property) where
   not-refused-next : (w : Watch) (c : Call) → refusal p w c ≡ 0 → next p w c ≡ taken p w c
   not-refused-next w c e = ap (λ (n : ℕ). unless-refused n (taken p w c) w) e
 
-  not-refused-late : (w : Watch) (c : Call) → refusal p w c ≡ 0 → w .latest ≤ stamp-of c
+  not-refused-late : (w : Watch) (c : Call) → refusal p w c ≡ 0 → w .clock .latest ≤ stamp-of c
   not-refused-late w (Call.line l) e =
-      not-refused-stamp (w .latest) (l .stamp)
-      (first-of-none (stamp-refusal (w .latest) (l .stamp)) (first-of-none (given 3 (action-above (l .action))) e .1) .0)
-  not-refused-late w (Call.mark g) e = not-refused-stamp (w .latest) (g .stamp) (not-refused-mark (w .latest) g e)
+      not-refused-stamp (w .clock) (l .stamp)
+      (first-of-none (stamp-refusal (w .clock) (l .stamp)) (first-of-none (given 3 (action-above (l .action))) e .1) .0)
+  not-refused-late w (Call.mark g) e = not-refused-stamp (w .clock) (g .stamp) (not-refused-mark (w .clock) g e)
 
   pub watched-append : (w : Watch) (a c : List Call) → watched p w (a ++ c) ≡ watched p (watched p w a) c
   unfolding watched
@@ -57,86 +52,78 @@ module _ (p : Property) where
       let r : AllTaken p (taken p w k) a × AllTaken p (watched p (taken p w k) a) c = taken-append (taken p w k) a c (h .1) in
       ((h .0, r .0), subst (λ (x : Watch). AllTaken p (watched p x a) c) (sym (not-refused-next w k (h .0))) (r .1))
 
-  taken-latest : (w : Watch) (c : Call) → taken p w c .latest ≡ stamp-of c
-  taken-latest w (Call.line l) = go (w .is-blind) (beyond p (w .latest) (l .stamp))
-    where
-      go : (x y : Bool)
-          → (cond x
-          (cond y (record { is-blind = false; run = l ∷ []; latest = l .stamp }) (record { is-blind = true; run = []; latest = l .stamp }))
-          (open-watch (w .run ++ l ∷ []) (l .stamp))) .latest ≡ l .stamp
-      go true true = refl
-      go true false = refl
-      go false y = refl
+  taken-latest : (w : Watch) (c : Call) → taken p w c .clock .latest ≡ stamp-of c
+  taken-latest w (Call.line l) =
+      by-time-each p (w .clock) (l .stamp) _ _ _ (λ (x : Watch). x .clock .latest ≡ l .stamp) (λ e f. refl) (λ e f. refl) (λ e. refl)
   taken-latest w (Call.mark g) = refl
 
   -- the latest stamp is the highest of everything taken or marked
-  latest-highest : (w : Watch) (ks : List Call) → AllTaken p w ks → watched p w ks .latest ≡ highest (w .latest) ks
+  latest-highest : (w : Watch) (ks : List Call) → AllTaken p w ks → watched p w ks .clock .latest ≡ highest (w .clock .latest) ks
   unfolding watched AllTaken highest
   latest-highest w [] h = refl
   latest-highest w (k ∷ ks) h =
-      ap (λ (x : Watch). watched p x ks .latest) (not-refused-next w k (h .0))
+      ap (λ (x : Watch). watched p x ks .clock .latest) (not-refused-next w k (h .0))
       ∙ latest-highest (taken p w k) ks (h .1)
-      ∙ ap (λ (t : ℕ). highest t ks) (taken-latest w k ∙ later (w .latest) (stamp-of k) (not-refused-late w k (h .0)))
+      ∙ ap (λ (t : ℕ). highest t ks) (taken-latest w k ∙ later (w .clock .latest) (stamp-of k) (not-refused-late w k (h .0)))
     where
       later : (s t : ℕ) → s ≤ t → t ≡ max s t
       later s t q = omega arith
 
   -- "after the mark, until a line comes more than twice the upper bound after everything taken or marked, the watcher says blind"
-  stays-blind : (t : ℕ) (ks : List Call) → AllTaken p (blind-watch t) ks → Quiet p t ks → watched p (blind-watch t) ks .is-blind ≡ true
+  stays-blind : (w : Watch) (ks : List Call) → w .clock .is-blind ≡ true → AllTaken p w ks → Quiet p (w .clock .latest) ks
+      → watched p w ks .clock .is-blind ≡ true
   unfolding watched AllTaken Quiet
-  stays-blind t [] h q = refl
-  stays-blind t (Call.line l ∷ ks) h q =
-      let late : t ≤ l .stamp = not-refused-late (blind-watch t) (Call.line l) (h .0) in
-      let e : max t (l .stamp) ≡ l .stamp = omega arith in
-      let skipped : with-line p (blind-watch t) l ≡ blind-watch (l .stamp) =
-      ap (λ (x : Bool). cond x (open-watch (l ∷ []) (l .stamp)) (blind-watch (l .stamp))) (le-ltb _ _ (q .0)) in
-      ap (λ (x : Watch). watched p x ks .is-blind) (not-refused-next (blind-watch t) (Call.line l) (h .0) ∙ skipped)
-      ∙ stays-blind (l .stamp) ks (subst (λ (x : Watch). AllTaken p x ks) skipped (h .1)) (subst (λ (x : ℕ). Quiet p x ks) e (q .1))
-  stays-blind t (Call.mark g ∷ ks) h q =
-      let late : t ≤ g .stamp = not-refused-late (blind-watch t) (Call.mark g) (h .0) in
-      let e : max t (g .stamp) ≡ g .stamp = omega arith in
-      ap (λ (x : Watch). watched p x ks .is-blind) (not-refused-next (blind-watch t) (Call.mark g) (h .0))
-      ∙ stays-blind (g .stamp) ks (h .1) (subst (λ (x : ℕ). Quiet p x ks) e q)
+  stays-blind w [] b h q = b
+  stays-blind w (Call.line l ∷ ks) b h q =
+      let late : w .clock .latest ≤ l .stamp = not-refused-late w (Call.line l) (h .0) in
+      let e : max (w .clock .latest) (l .stamp) ≡ l .stamp = omega arith in
+      let skipped : with-line p w l ≡ blind-watch (ticked (w .clock) l true) =
+      by-time-is p (w .clock) (l .stamp) _ _ _ b (le-ltb _ _ (q .0)) in
+      ap (λ (x : Watch). watched p x ks .clock .is-blind) (not-refused-next w (Call.line l) (h .0) ∙ skipped)
+      ∙ stays-blind (blind-watch (ticked (w .clock) l true)) ks refl (subst (λ (x : Watch). AllTaken p x ks) skipped (h .1))
+      (subst (λ (x : ℕ). Quiet p x ks) e (q .1))
+  stays-blind w (Call.mark g ∷ ks) b h q =
+      let late : w .clock .latest ≤ g .stamp = not-refused-late w (Call.mark g) (h .0) in
+      let e : max (w .clock .latest) (g .stamp) ≡ g .stamp = omega arith in
+      ap (λ (x : Watch). watched p x ks .clock .is-blind) (not-refused-next w (Call.mark g) (h .0))
+      ∙ stays-blind (with-mark w g) ks refl (h .1) (subst (λ (x : ℕ). Quiet p x ks) e q)
 
   pub blind-until : (before between : List Call) (g : Mark) → AllTaken p fresh (before ++ Call.mark g ∷ between)
-      → Quiet p (highest 0 (before ++ Call.mark g ∷ [])) between → watched p fresh (before ++ Call.mark g ∷ between) .is-blind ≡ true
+      → Quiet p (highest 0 (before ++ Call.mark g ∷ [])) between → watched p fresh (before ++ Call.mark g ∷ between) .clock .is-blind ≡ true
   unfolding watched AllTaken
   blind-until before between g h q =
       let r : AllTaken p fresh before × AllTaken p (watched p fresh before) (Call.mark g ∷ between) = taken-append fresh before (Call.mark g ∷ between) h in
       let w : Watch = watched p fresh before in
       let top : highest 0 (before ++ Call.mark g ∷ []) ≡ g .stamp =
-      sym (latest-highest fresh (before ++ Call.mark g ∷ []) (marked (r .0) (r .1 .0))) ∙ last-mark (r .1 .0) in
-      ap (λ (x : Watch). x .is-blind) (watched-append fresh before (Call.mark g ∷ between))
-      ∙ ap (λ (x : Watch). watched p x between .is-blind) (not-refused-next w (Call.mark g) (r .1 .0))
-      ∙ stays-blind (g .stamp) between (r .1 .1) (subst (λ (t : ℕ). Quiet p t between) top q)
+      sym (latest-highest fresh (before ++ Call.mark g ∷ []) (join-taken fresh before (r .0) (r .1 .0))) ∙ last-mark (r .1 .0) in
+      ap (λ (x : Watch). x .clock .is-blind) (watched-append fresh before (Call.mark g ∷ between))
+      ∙ ap (λ (x : Watch). watched p x between .clock .is-blind) (not-refused-next w (Call.mark g) (r .1 .0))
+      ∙ stays-blind (with-mark w g) between refl (r .1 .1) (subst (λ (t : ℕ). Quiet p t between) top q)
     where
-      last-mark : refusal p (watched p fresh before) (Call.mark g) ≡ 0 → watched p fresh (before ++ Call.mark g ∷ []) .latest ≡ g .stamp
+      last-mark : refusal p (watched p fresh before) (Call.mark g) ≡ 0 → watched p fresh (before ++ Call.mark g ∷ []) .clock .latest ≡ g .stamp
       last-mark e =
-          ap (λ (x : Watch). x .latest) (watched-append fresh before (Call.mark g ∷ []))
-          ∙ ap (λ (x : Watch). x .latest) (not-refused-next (watched p fresh before) (Call.mark g) e)
+          ap (λ (x : Watch). x .clock .latest) (watched-append fresh before (Call.mark g ∷ []))
+          ∙ ap (λ (x : Watch). x .clock .latest) (not-refused-next (watched p fresh before) (Call.mark g) e)
 
       join-taken : (w : Watch) (a : List Call) → AllTaken p w a → refusal p (watched p w a) (Call.mark g) ≡ 0 → AllTaken p w (a ++ Call.mark g ∷ [])
       join-taken w [] h e = (e, tt)
       join-taken w (k ∷ a) h e =
           (h .0, join-taken (taken p w k) a (h .1) (subst (λ (x : Watch). refusal p (watched p x a) (Call.mark g) ≡ 0) (not-refused-next w k (h .0)) e))
 
-      marked : AllTaken p fresh before → refusal p (watched p fresh before) (Call.mark g) ≡ 0 → AllTaken p fresh (before ++ Call.mark g ∷ [])
-      marked = join-taken fresh before
-
   -- a run goes on to the next mark
-  pub runs-on : (run : Run) (t : ℕ) (ks : List Call) → AllTaken p (open-watch run t) ks → NoMark ks
-      → (t′ : ℕ) × (watched p (open-watch run t) ks ≡ open-watch (run ++ call-lines ks) t′)
+  pub runs-on : (run : Run) (clock : Clock) (ks : List Call) → AllTaken p (open-watch run clock) ks → NoMark ks
+      → (later : Clock) × (watched p (open-watch run clock) ks ≡ open-watch (run ++ call-lines ks) later)
   unfolding watched AllTaken NoMark call-lines
-  runs-on run t [] h n = (t, ap (λ (r : Run). open-watch r t) (sym (append-nil run)))
-  runs-on run t (Call.line l ∷ ks) h n =
-      let r : ((t′ : ℕ) × (watched p (open-watch (run ++ l ∷ []) (l .stamp)) ks ≡ open-watch ((run ++ l ∷ []) ++ call-lines ks) t′)) =
-      runs-on (run ++ l ∷ []) (l .stamp) ks (h .1) n in (
+  runs-on run clock [] h n = (clock, ap (λ (r : Run). open-watch r clock) (sym (append-nil run)))
+  runs-on run clock (Call.line l ∷ ks) h n =
+      let r : ((later : Clock) × (watched p (open-watch (run ++ l ∷ []) (ticked clock l false)) ks ≡ open-watch ((run ++ l ∷ []) ++ call-lines ks) later)) =
+      runs-on (run ++ l ∷ []) (ticked clock l false) ks (h .1) n in (
         r .0,
-        ap (λ (x : Watch). watched p x ks) (not-refused-next (open-watch run t) (Call.line l) (h .0))
+        ap (λ (x : Watch). watched p x ks) (not-refused-next (open-watch run clock) (Call.line l) (h .0))
             ∙ r .1
             ∙ ap (λ (x : Run). open-watch x (r .0)) (append-assoc run (l ∷ []) (call-lines ks)),
       )
-  runs-on run t (Call.mark g ∷ ks) h n = absurd n
+  runs-on run clock (Call.mark g ∷ ks) h n = absurd n
 
 -- ---- events
 
@@ -210,25 +197,21 @@ all-below t (Event.mark g ∷ a) x c m = all-below (max t (g .stamp)) a x c m
 -- ---- demand 3's verdict
 
 module _ (p : Property) (b : Bounds p) (earlier later : List Event) (x : Line) (premises : Premises (earlier ++ Event.line x ∷ later))
-    (takes : AllTaken p fresh (fed (earlier ++ Event.line x ∷ later))) (was-blind : watched p fresh (fed earlier) .is-blind ≡ true)
+    (takes : AllTaken p fresh (fed (earlier ++ Event.line x ∷ later))) (was-blind : watched p fresh (fed earlier) .clock .is-blind ≡ true)
     (boundary : highest 0 (fed earlier) + 2 * p .UB < x .stamp) (no-mark : NoMark (fed later)) where
-  run-then : (t : ℕ) × (watched p fresh (fed (earlier ++ Event.line x ∷ later)) ≡ open-watch (x ∷ all-lines later) t)
+  run-then : (clock : Clock) × (watched p fresh (fed (earlier ++ Event.line x ∷ later)) ≡ open-watch (x ∷ all-lines later) clock)
   unfolding watched AllTaken fed
   run-then =
       let w : Watch = watched p fresh (fed earlier) in
       let e : fed (earlier ++ Event.line x ∷ later) ≡ fed earlier ++ Call.line x ∷ fed later = fed-append earlier (Event.line x ∷ later) in
       let h : AllTaken p fresh (fed earlier) × AllTaken p w (Call.line x ∷ fed later) =
       taken-append p fresh (fed earlier) (Call.line x ∷ fed later) (subst (AllTaken p fresh) e takes) in
-      let top : w .latest ≡ highest 0 (fed earlier) = latest-highest p fresh (fed earlier) (h .0) in
-      let far : beyond p (w .latest) (x .stamp) ≡ true = lt-ltb _ _ (subst (λ (t : ℕ). t + 2 * p .UB < x .stamp) (sym top) boundary) in
-      let begins : taken p w (Call.line x) ≡ open-watch (x ∷ []) (x .stamp) =
-      ap
-      (λ (t : Bool).
-      cond t (cond (beyond p (w .latest) (x .stamp)) (open-watch (x ∷ []) (x .stamp)) (blind-watch (x .stamp))) (open-watch (w .run ++ x ∷ []) (x .stamp)))
-      was-blind
-      ∙ ap (λ (t : Bool). cond t (open-watch (x ∷ []) (x .stamp)) (blind-watch (x .stamp))) far in
-      let r : ((t : ℕ) × (watched p (open-watch (x ∷ []) (x .stamp)) (fed later) ≡ open-watch (x ∷ call-lines (fed later)) t)) =
-      runs-on p (x ∷ []) (x .stamp) (fed later) (subst (λ (v : Watch). AllTaken p v (fed later)) begins (h .1 .1)) no-mark in
+      let top : w .clock .latest ≡ highest 0 (fed earlier) = latest-highest p fresh (fed earlier) (h .0) in
+      let far : beyond p (w .clock) (x .stamp) ≡ true = lt-ltb _ _ (subst (λ (t : ℕ). t + 2 * p .UB < x .stamp) (sym top) boundary) in
+      let began : Clock = ticked (w .clock) x false in
+      let begins : taken p w (Call.line x) ≡ open-watch (x ∷ []) began = by-time-is p (w .clock) (x .stamp) _ _ _ was-blind far in
+      let r : ((clock : Clock) × (watched p (open-watch (x ∷ []) began) (fed later) ≡ open-watch (x ∷ call-lines (fed later)) clock)) =
+      runs-on p (x ∷ []) began (fed later) (subst (λ (v : Watch). AllTaken p v (fed later)) begins (h .1 .1)) no-mark in
       let lost-none : all-lines later ≡ call-lines (fed later) =
       none-lost later (line-marked (marked-append earlier (Event.line x ∷ later) (premises .lost-marked))) no-mark in (
         r .0,

@@ -1,8 +1,9 @@
--- Whole numbers, lists, tests, refusals.
+-- Whole numbers, lists, tests, refusals, the clock.
 pub mod Whole
 pub mod Lists
 pub mod Tests
 pub mod Refusals
+pub mod Clocks
 -- What could have happened at the node: pairs, the two channels, and document 01's facts.
 pub mod Pairs
 pub mod Channels

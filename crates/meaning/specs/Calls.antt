@@ -35,52 +35,71 @@ pub data Call : Type 0 where
 abbrev pub mark-at : ℕ → ℕ → Call
 mark-at lost t = Call.mark (record { lost = lost; stamp = t })
 
--- What the calls so far have come to: is the session blind, the run that is open (none while blind), the latest stamp.
-pub record Watch : Type 0 where
-  pub is-blind : Bool
-  pub run : Run
+-- The latest stamp, and is the session blind.
+pub record Clock : Type 0 where
   pub latest : ℕ
+  pub is-blind : Bool
+
+-- "latest stamp 0"
+abbrev pub fresh-clock : Clock
+fresh-clock = record { latest = 0; is-blind = false }
+
+-- The clock after a line is taken, after which the session is blind or not.
+abbrev pub ticked : Clock → Line → Bool → Clock
+ticked k l b = record { latest = l .stamp; is-blind = b }
+
+-- The clock after a gap mark: "the session is blind."
+abbrev pub marked : Clock → Mark → Clock
+marked k g = record { latest = g .stamp; is-blind = true }
+
+-- "4: a stamp above 2^40 − 1", "5: a stamp below the latest"
+abbrev pub stamp-refusal : Clock → ℕ → ℕ
+stamp-refusal k T = first-of (given 4 (ltb last-stamp T)) (given 5 (ltb T (k .latest)))
+
+-- Refusals 3, 4 and 5 of a gap mark: "one above 63 is refusal 3 there".
+abbrev pub mark-refusal : Clock → Mark → ℕ
+mark-refusal k g = first-of (given 3 (ltb most-lost (g .lost))) (stamp-refusal k (g .stamp))
+
+-- "T exceeds the latest stamp by more than 2·UB"
+abbrev pub beyond : Property → Clock → ℕ → Bool
+beyond p k T = ltb (k .latest + 2 * p .UB) T
+
+-- "A line stamped T taken while blind is skipped, unless T exceeds the latest stamp by more than 2·UB; then a boundary stands
+-- before it and it is the first line of a new run." What comes of such a first line, of a skipped one and of the next of a run is given.
+abbrev pub by-time : {A : Type 0} → Property → Clock → ℕ → A → A → A → A
+by-time p k T first skipped next = cond (k .is-blind) (cond (beyond p k T) first skipped) next
+
+-- What the calls so far have come to: the clock, and the run that is open (none while blind).
+pub record Watch : Type 0 where
+  pub clock : Clock
+  pub run : Run
 
 -- "A fresh session has an empty run, verdict 0 and latest stamp 0."
 abbrev pub fresh : Watch
-fresh = record { is-blind = false; run = []; latest = 0 }
+fresh = record { clock = fresh-clock; run = [] }
 
--- "T exceeds the latest stamp by more than 2·UB"
-abbrev pub beyond : Property → ℕ → ℕ → Bool
-beyond p latest T = ltb (latest + 2 * p .UB) T
-
--- The watch after a line is taken: "A line stamped T taken while blind is skipped, unless T exceeds the latest stamp by
--- more than 2·UB; then a boundary stands before it and it is the first line of a new run."
+-- The watch after a line is taken.
 abbrev pub with-line : Property → Watch → Line → Watch
 with-line p w l =
-    cond (w .is-blind)
-    (cond (beyond p (w .latest) (l .stamp))
-    (record { is-blind = false; run = l ∷ []; latest = l .stamp })
-    (record { is-blind = true; run = []; latest = l .stamp }))
-    (record { is-blind = false; run = w .run ++ l ∷ []; latest = l .stamp })
+    by-time p (w .clock) (l .stamp)
+    (record { clock = ticked (w .clock) l false; run = l ∷ [] })
+    (record { clock = ticked (w .clock) l true; run = [] })
+    (record { clock = ticked (w .clock) l false; run = w .run ++ l ∷ [] })
 
 -- The watch after a gap mark: "It closes the run .. and the session is blind."
 abbrev pub with-mark : Watch → Mark → Watch
-with-mark w g = record { is-blind = true; run = []; latest = g .stamp }
-
--- "4: a stamp above 2^40 − 1", "5: a stamp below the latest"
-abbrev pub stamp-refusal : ℕ → ℕ → ℕ
-stamp-refusal latest T = first-of (given 4 (ltb last-stamp T)) (given 5 (ltb T latest))
+with-mark w g = record { clock = marked (w .clock) g; run = [] }
 
 -- "6: more than 64 inputs would be open"; "Refusal 6 is never given while blind."
 abbrev pub line-refusal : Property → Watch → Line → ℕ
 line-refusal p w l =
     first-of (given 3 (action-above (l .action)))
-    (first-of (stamp-refusal (w .latest) (l .stamp))
-    (given 6 (not (w .is-blind) && ltb most-open (open-at p (l .stamp) (w .run ++ l ∷ [])))))
-
--- Refusals 3, 4 and 5 of a gap mark, where the latest stamp is given: "one above 63 is refusal 3 there".
-abbrev pub mark-refusal : ℕ → Mark → ℕ
-mark-refusal latest g = first-of (given 3 (ltb most-lost (g .lost))) (stamp-refusal latest (g .stamp))
+    (first-of (stamp-refusal (w .clock) (l .stamp))
+    (given 6 (not (w .clock .is-blind) && ltb most-open (open-at p (l .stamp) (w .run ++ l ∷ [])))))
 
 abbrev pub refusal : Property → Watch → Call → ℕ
 refusal p w (Call.line l) = line-refusal p w l
-refusal p w (Call.mark g) = mark-refusal (w .latest) g
+refusal p w (Call.mark g) = mark-refusal (w .clock) g
 
 abbrev pub taken : Property → Watch → Call → Watch
 taken p w (Call.line l) = with-line p w l
@@ -111,11 +130,11 @@ kept p w (c ∷ rest) = unless-refused (refusal p w c) (c ∷ kept p (next p w c
 
 -- The verdict that stands: "3 blind, no run is open".
 abbrev pub Standing : Property → Watch → Verdict → Type 0
-Standing p w v = cond (w .is-blind) (v ≡ Verdict.blind) (IsVerdict p (w .run) v)
+Standing p w v = cond (w .clock .is-blind) (v ≡ Verdict.blind) (IsVerdict p (w .run) v)
 
 -- "Open is 0 while blind."
 abbrev pub open-of : Property → Watch → ℕ
-open-of p w = cond (w .is-blind) 0 (open-at p (w .latest) (w .run))
+open-of p w = cond (w .clock .is-blind) 0 (open-at p (w .clock .latest) (w .run))
 
 -- What a call answers.
 pub record Answer : Type 0 where

@@ -9,7 +9,8 @@ use Rattle.meaning.specs.Limits.{most-open}
 use Rattle.meaning.specs.Words.{Action, Property, Line}
 use Rattle.meaning.specs.Node.{Verdict, verdict-number}
 use Rattle.meaning.specs.Numbers.{given, first-of, action-above}
-use Rattle.meaning.specs.Calls.{is-open, beyond, stamp-refusal, mark-refusal, unless-refused, Mark, Call, Answer, refused}
+use Rattle.meaning.specs.Calls.{is-open, Mark, Call, Clock, fresh-clock, ticked, marked, stamp-refusal, mark-refusal, by-time}
+use Rattle.meaning.specs.Calls.{unless-refused, Answer, refused}
 use Rattle.meaning.specs.Matcher.{Lengths, none-of, at-start, either, moved, some-length}
 
 -- Sets of what a matcher may remember.
@@ -46,9 +47,8 @@ pub record Front (Set : Type 0) : Type 0 where
 
 -- A session over cuts.
 pub record Cuts (Set : Type 0) : Type 0 where
-  pub is-blind : Bool
+  pub clock : Clock
   pub front : Front Set
-  pub latest : ℕ
 
 module _ (p : Property) (𝓢 : Sets) where
   -- The set of the cut after all open inputs: every explanation of the run ends there.
@@ -93,7 +93,7 @@ module _ (p : Property) (𝓢 : Sets) where
   no-front = record { before = 𝓢 .none; held = [] }
 
   abbrev pub fresh-cuts : Cuts (𝓢 .Set)
-  fresh-cuts = record { is-blind = false; front = fresh-front; latest = 0 }
+  fresh-cuts = record { clock = fresh-clock; front = fresh-front }
 
   -- "0 clear, no explanation breaks; 1 suspect, some break and some don't; 2 certain, all break"
   abbrev pub verdict-of : Bool → Bool → Verdict
@@ -107,32 +107,31 @@ module _ (p : Property) (𝓢 : Sets) where
       verdict-of (𝓢 .some-broken s) (𝓢 .some-unbroken s)
 
   abbrev pub cuts-verdict : Cuts (𝓢 .Set) → Verdict
-  cuts-verdict c = cond (c .is-blind) Verdict.blind (front-verdict (c .front))
+  cuts-verdict c = cond (c .clock .is-blind) Verdict.blind (front-verdict (c .front))
 
   abbrev pub cuts-open : Cuts (𝓢 .Set) → ℕ
   cuts-open c = length (c .front .held)
 
   abbrev pub cuts-with-line : Cuts (𝓢 .Set) → Line → Cuts (𝓢 .Set)
   cuts-with-line c l =
-      cond (c .is-blind)
-      (cond (beyond p (c .latest) (l .stamp))
-      (record { is-blind = false; front = front-with fresh-front l; latest = l .stamp })
-      (record { is-blind = true; front = no-front; latest = l .stamp }))
-      (record { is-blind = false; front = front-with (c .front) l; latest = l .stamp })
+      by-time p (c .clock) (l .stamp)
+      (record { clock = ticked (c .clock) l false; front = front-with fresh-front l })
+      (record { clock = ticked (c .clock) l true; front = no-front })
+      (record { clock = ticked (c .clock) l false; front = front-with (c .front) l })
 
   abbrev pub cuts-with-mark : Cuts (𝓢 .Set) → Mark → Cuts (𝓢 .Set)
-  cuts-with-mark c g = record { is-blind = true; front = no-front; latest = g .stamp }
+  cuts-with-mark c g = record { clock = marked (c .clock) g; front = no-front }
 
   -- Refusals 3, 4, 5 and 6 of a line, in this order.
   abbrev pub cuts-line-refusal : Cuts (𝓢 .Set) → Line → ℕ
   cuts-line-refusal c l =
       first-of (given 3 (action-above (l .action)))
-      (first-of (stamp-refusal (c .latest) (l .stamp))
-      (given 6 (not (c .is-blind) && ltb most-open (cuts-open (cuts-with-line c l)))))
+      (first-of (stamp-refusal (c .clock) (l .stamp))
+      (given 6 (not (c .clock .is-blind) && ltb most-open (cuts-open (cuts-with-line c l)))))
 
   abbrev pub cuts-refusal : Cuts (𝓢 .Set) → Call → ℕ
   cuts-refusal c (Call.line l) = cuts-line-refusal c l
-  cuts-refusal c (Call.mark g) = mark-refusal (c .latest) g
+  cuts-refusal c (Call.mark g) = mark-refusal (c .clock) g
 
   abbrev pub cuts-taken : Cuts (𝓢 .Set) → Call → Cuts (𝓢 .Set)
   cuts-taken c (Call.line l) = cuts-with-line c l

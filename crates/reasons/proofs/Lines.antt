@@ -7,31 +7,33 @@ use native.Mathlib.Omega.{arith}
 use mathlib.Core.List.{List, [], _∷_, _++_, map, append-nil}
 use Rattle.meaning.specs.Words.{Property, Line, Run}
 use Rattle.meaning.specs.Numbers.{first-of}
-use Rattle.meaning.specs.Calls.{Call, Watch, refusal, taken, watched, AllTaken}
+use Rattle.meaning.specs.Calls.{Call, Clock, ticked, Watch, refusal, taken, watched, AllTaken}
 use Rattle.meaning.proofs.Lists.{snoc-append}
 use Rattle.meaning.proofs.Refusals.{first-of-none, unless-taken}
+use Rattle.meaning.proofs.Clocks.{open-watch}
 use Rattle.reasons.specs.Reasons.{lines-refusal}
 
 abbrev pub as-calls : List Line → List Call
 as-calls lines = map Call.line lines
 
-abbrev open-watch : Run → ℕ → Watch
-open-watch run t = record { is-blind = false; run = run; latest = t }
-
 module _ (p : Property) where
-  goes-on : (w : Watch) (l : Line) (calls : List Call) → refusal p w (Call.line l) ≡ 0 → watched p w (Call.line l ∷ calls) ≡ watched p (taken p w (Call.line l)) calls
+  goes-on : (w : Watch) (l : Line) (calls : List Call) → refusal p w (Call.line l) ≡ 0
+      → watched p w (Call.line l ∷ calls) ≡ watched p (taken p w (Call.line l)) calls
   unfolding watched
   goes-on w l calls e = ap (λ (x : Watch). watched p x calls) (unless-taken (refusal p w (Call.line l)) (taken p w (Call.line l)) w e)
 
   -- All are taken, and are the run that is then open.
-  pub takes-all : (run lines : List Line) (t : ℕ) → lines-refusal p (open-watch run t) lines ≡ 0
-      → AllTaken p (open-watch run t) (as-calls lines) × ((t′ : ℕ) × (watched p (open-watch run t) (as-calls lines) ≡ open-watch (run ++ lines) t′))
+  pub takes-all : (run lines : List Line) (clock : Clock) → lines-refusal p (open-watch run clock) lines ≡ 0
+      → AllTaken p (open-watch run clock) (as-calls lines)
+      × ((later : Clock) × (watched p (open-watch run clock) (as-calls lines) ≡ open-watch (run ++ lines) later))
   unfolding lines-refusal AllTaken watched
-  takes-all run [] t e = (tt, (t, ap (λ (r : Run). open-watch r t) (sym (append-nil run))))
-  takes-all run (l ∷ lines) t e =
-      let parts = first-of-none (refusal p (open-watch run t) (Call.line l)) e in
-      let r = takes-all (run ++ l ∷ []) lines (l .stamp) (parts .1) in
-      ((parts .0, r .0), (r .1 .0, goes-on (open-watch run t) l (as-calls lines) (parts .0) ∙ r .1 .1 ∙ ap (λ (x : Run). open-watch x (r .1 .0)) (snoc-append run l lines)))
+  takes-all run [] clock e = (tt, (clock, ap (λ (r : Run). open-watch r clock) (sym (append-nil run))))
+  takes-all run (l ∷ lines) clock e =
+      let parts = first-of-none (refusal p (open-watch run clock) (Call.line l)) e in
+      let r = takes-all (run ++ l ∷ []) lines (ticked clock l false) (parts .1) in
+      let longer : open-watch ((run ++ l ∷ []) ++ lines) (r .1 .0) ≡ open-watch (run ++ l ∷ lines) (r .1 .0) =
+      ap (λ (x : Run). open-watch x (r .1 .0)) (snoc-append run l lines) in
+      ((parts .0, r .0), (r .1 .0, goes-on (open-watch run clock) l (as-calls lines) (parts .0) ∙ r .1 .1 ∙ longer))
 
   -- Or the number is that of the first that is not taken.
   pub record StopsAt (w : Watch) (lines : List Line) (n : ℕ) : Type 0 where

@@ -1,7 +1,7 @@
--- The way back is one: read back from the arrays it is stored in, a front is itself.
+-- The way back is one: read back from the rows it is stored in, a front is itself.
 use Prim.Native.Nat.{ℕ, zero, suc, _≤_, _<_}
 use mathlib.Core.Path.{_≡_, refl, sym, _∙_, ap, ap₂, subst}
-use mathlib.Core.List.{List, map}
+use mathlib.Core.List.{List, [], _∷_, map}
 use native.Mathlib.Omega.{arith}
 use lib.ListN.{length, getD, length-map}
 use Rattle.laws.specs.Places.{first}
@@ -11,7 +11,6 @@ use Rattle.meaning.specs.Matcher.{Lengths, none-of}
 use Rattle.meaning.specs.Numbers.{property-refusal}
 use Rattle.meaning.specs.Step.{Held, Front}
 use Rattle.meaning.proofs.Lists.{All}
-use Rattle.session_record.proofs.Each.{all-at}
 use Rattle.meaning.proofs.Channels.{IsIn, In}
 use Rattle.meaning.proofs.InOrder.{nothing}
 use Rattle.meaning.proofs.Throughout.{Throughout}
@@ -19,19 +18,34 @@ use Rattle.property.specs.Meant.{meant}
 use Rattle.property.specs.declared.Property.{Property}
 use Rattle.matcher.specs.Sets.{set-of, cut-of, Fits, Short}
 use Rattle.matcher.proofs.Words.{set-back, short-fits}
+use Rattle.rows.specs.declared.Span.{Span}
+use Rattle.rows.specs.Rows.{spanning, word}
+use Rattle.rows.proofs.Rows.{count-spanning, word-spanning}
 use Rattle.held.specs.Held.{line-at}
-use Rattle.cuts.specs.Arrays.{cut-at, front-of, number-of, sets-of, stored-held, stored-acts, stored-row}
+use Rattle.cuts.specs.Fronts.{cut-at, held-at, front-of, number-of, sets-of, stored-held, stored-acts, stored-row}
+use Rattle.session_record.proofs.Each.{all-at}
+
+-- The rows of the record of a front.
+abbrev pub stored-rows : Front Lengths → List (List ℕ)
+stored-rows f = stored-held f ∷ stored-acts f ∷ stored-row f .masks ∷ stored-row f .armed ∷ []
 
 module _ (p : Property) (good : property-refusal (meant p) ≡ 0) (f : Front Lengths) (few : length (f .held) ≤ 64)
     (inputs : All (λ (h : Held Lengths). In (h .line)) (f .held)) (short : Throughout (Short (meant p)) f) where
+  abbrev pub own : Span
+  own = spanning (length (f .held))
+
   abbrev pub nth : ℕ → Held Lengths
   nth i = getD (f .held) i (nothing none-of)
 
-  pub stamp-stored : (i : ℕ) → i < length (f .held) → getD (stored-held f) i 0 ≡ nth i .line .stamp
-  stamp-stored i h = getD-first _ 64 i 0 (omega arith) ∙ map-at (λ (x : Held Lengths). x .line .stamp) (f .held) i (nothing none-of) 0 h
+  pub stamp-stored : (i : ℕ) → i < length (f .held) → word (stored-rows f) own 0 i ≡ nth i .line .stamp
+  stamp-stored i h =
+      word-spanning (stored-rows f) (length (f .held)) 0 i (omega arith)
+      ∙ getD-first _ 65 i 0 (omega arith) ∙ map-at (λ (x : Held Lengths). x .line .stamp) (f .held) i (nothing none-of) 0 h
 
-  act-stored : (i : ℕ) → i < length (f .held) → getD (stored-acts f) i 0 ≡ number-of (nth i .line .action)
-  act-stored i h = getD-first _ 64 i 0 (omega arith) ∙ map-at (λ (x : Held Lengths). number-of (x .line .action)) (f .held) i (nothing none-of) 0 h
+  act-stored : (i : ℕ) → i < length (f .held) → word (stored-rows f) own 1 i ≡ number-of (nth i .line .action)
+  act-stored i h =
+      word-spanning (stored-rows f) (length (f .held)) 1 i (omega arith)
+      ∙ getD-first _ 65 i 0 (omega arith) ∙ map-at (λ (x : Held Lengths). number-of (x .line .action)) (f .held) i (nothing none-of) 0 h
 
   -- the set of cut i
   set : ℕ → Lengths
@@ -51,35 +65,35 @@ module _ (p : Property) (good : property-refusal (meant p) ≡ 0) (f : Front Len
   sets-long : length (sets-of f) ≡ suc (length (f .held))
   sets-long = ap suc (length-map (f .held) (λ (x : Held Lengths). x .after))
 
-  cut-stored : (i : ℕ) → i ≤ length (f .held) → cut-at (stored-row f) i ≡ cut-of (set i)
+  cut-stored : (i : ℕ) → i ≤ length (f .held) → cut-at (stored-rows f) own 0 i ≡ cut-of (set i)
   cut-stored i h =
-      ap₂ (λ (x y : ℕ). record { mask = x; marks = y }) (word (λ (s : Lengths). cut-of s .mask)) (word (λ (s : Lengths). cut-of s .marks))
+      ap₂ (λ (x y : ℕ). record { mask = x; armed = y })
+      (word-spanning (stored-rows f) (length (f .held)) 2 i (omega arith) ∙ stored (λ (s : Lengths). cut-of s .mask))
+      (word-spanning (stored-rows f) (length (f .held)) 3 i (omega arith) ∙ stored (λ (s : Lengths). cut-of s .armed))
     where
-      word : (w : Lengths → ℕ) → getD (first (λ j. getD (map w (sets-of f)) j 0) 65) i 0 ≡ w (set i)
-      word w =
-          getD-first _ 65 i 0 (omega arith)
-          ∙ map-at w (sets-of f) i none-of 0 (omega (arith, sets-long))
-          ∙ ap w (set-at-is i h)
+      stored : (w : Lengths → ℕ) → getD (first (λ j. getD (map w (sets-of f)) j 0) 65) i 0 ≡ w (set i)
+      stored w = getD-first _ 65 i 0 (omega arith) ∙ map-at w (sets-of f) i none-of 0 (omega (arith, sets-long)) ∙ ap w (set-at-is i h)
 
-  pub stored-fits : (i : ℕ) → i ≤ length (f .held) → Fits p (cut-at (stored-row f) i)
+  pub stored-fits : (i : ℕ) → i ≤ length (f .held) → Fits p (cut-at (stored-rows f) own 0 i)
   stored-fits i h = subst (Fits p) (sym (cut-stored i h)) (short-fits p good (set i) (set-short i h))
 
-  set-stored : (i : ℕ) → i ≤ length (f .held) → set-of (cut-at (stored-row f) i) ≡ set i
+  set-stored : (i : ℕ) → i ≤ length (f .held) → set-of (cut-at (stored-rows f) own 0 i) ≡ set i
   set-stored i h = ap set-of (cut-stored i h) ∙ set-back p good (set i) (set-short i h)
 
   line-back : (a : Action) (t : ℕ) → IsIn a → _≡_ {A = Line} (record { action = Action.input (number-of a); stamp = t }) (record { action = a; stamp = t })
   line-back (Action.input k) t h = refl
   line-back (Action.output k) t h = absurd h
 
-  line-stored : (i : ℕ) → i < length (f .held) → line-at (stored-held f) (stored-acts f) i ≡ nth i .line
+  line-stored : (i : ℕ) → i < length (f .held) → line-at (stored-rows f) own i ≡ nth i .line
   line-stored i h =
       ap₂ (λ (x y : ℕ). record { action = Action.input x; stamp = y }) (act-stored i h) (stamp-stored i h)
       ∙ line-back (nth i .line .action) (nth i .line .stamp) (all-at inputs i (nothing none-of) h)
 
-  pub front-back : front-of (stored-held f) (stored-acts f) (length (f .held)) (stored-row f) ≡ f
+  pub front-back : front-of (stored-rows f) own 0 ≡ f
   unfolding set
   front-back =
       ap₂ (λ (s : Lengths) (l : List (Held Lengths)). record { before = s; held = l })
       (set-stored zero (omega arith))
-      (first-same _ _ (length (f .held)) (λ i h. ap₂ (λ (l : Line) (s : Lengths). record { line = l; after = s }) (line-stored i h) (set-stored (suc i) (omega arith)))
+      (ap (first (held-at (stored-rows f) own 0)) (count-spanning (length (f .held)))
+      ∙ first-same _ _ (length (f .held)) (λ i h. ap₂ (λ (l : Line) (s : Lengths). record { line = l; after = s }) (line-stored i h) (set-stored (suc i) (omega arith)))
       ∙ first-whole (f .held) (nothing none-of))

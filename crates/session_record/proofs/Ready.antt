@@ -1,160 +1,174 @@
--- Records that a call on lent arrays can start from: what their arrays hold, and what a call refused or taken leaves.
-use Prim.Native.Nat.{ℕ, suc}
-use mathlib.Core.Path.{_≡_, refl, sym, _∙_, ap, subst}
-use mathlib.Core.Bool.{false}
+-- Memory that a call can start from: what its rows hold, and what a call refused or taken leaves.
+use Prim.Native.Nat.{ℕ, suc, _+_, _≤_, _<_}
+use mathlib.Core.Path.{_≡_, refl, sym, _∙_, ap, ap₂, subst}
+use mathlib.Core.Bool.{Bool, true, false, cond}
 use mathlib.Core.List.{List, map}
 use native.Mathlib.Omega.{arith}
-use lib.ListN.{length, set, replicate, length-map}
-use Rattle.laws.specs.Places.{first}
-use Rattle.laws.specs.Bits.{mask-to}
-use Rattle.laws.proofs.Places.{length-first, padded-behind}
-use Rattle.meaning.specs.Matcher.{Lengths, at-start, none-of}
+use lib.ListN.{length}
+use Rattle.laws.proofs.Places.{length-first, getD-first}
+use Rattle.meaning.specs.Limits.{last-stamp}
+use Rattle.meaning.specs.Matcher.{Lengths, none-of}
 use Rattle.meaning.specs.Numbers.{property-refusal}
 use Rattle.meaning.specs.Calls.{Call}
 use Rattle.meaning.specs.Calls
 use Rattle.meaning.specs.Step.{Held, Front, Cuts}
-use Rattle.meaning.proofs.InOrder.{nothing, order-inputs, order-within}
+use Rattle.meaning.proofs.InOrder.{InOrder, nothing, stamp-at, order-next, order-within}
 use Rattle.property.specs.Meant.{meant}
 use Rattle.property.specs.declared.Property.{Property}
-use Rattle.matcher.specs.Sets.{cut-of}
+use Rattle.rows.specs.declared.Span.{Span}
+use Rattle.rows.specs.Rows.{word, Room}
 use Rattle.held.specs.declared.Status.{Status}
-use Rattle.cuts.specs.declared.Row.{Row}
-use Rattle.cuts.specs.Steps.{front-fresh, front-none, fresh-by, refusal-by, taken-by, told-by}
-use Rattle.cuts.specs.Arrays.{row, number-of, sets-of, stored-held, stored-acts, stored-row, Stored, Holds}
+use Rattle.cuts.specs.Steps.{front-none, refusal-by, taken-by, told-by}
+use Rattle.cuts.specs.Fronts.{held-at, front-of, Usable}
 use Rattle.session_record.specs.declared.Session.{Session}
 use Rattle.session_record.specs.declared.Answer.{Answer}
-use Rattle.session_record.specs.Record.{count-of, cuts-of, record-of, out-of-range}
-use Rattle.session_record.specs.Step.{answer-of, refusal-of, no-property, no-session}
-use Rattle.session_record.specs.Lent.{in-arrays, blank, tidied, Ready, Advanced}
-use Rattle.session_record.proofs.Range.{Ranged, ranged}
-use Rattle.session_record.proofs.Map.{stamp-stored, stored-fits, front-back}
-use Rattle.session_record.proofs.Fit.{Fit, fresh-fit, ranged-fit, cuts-back, in-range}
-use Rattle.session_record.proofs.Steps.{step-refused, step-taken, refusal-fits, step-fit}
+use Rattle.session_record.specs.declared.Stepped.{Stepped}
+use Rattle.session_record.specs.Record.{rows-of, span-of, cuts-of, record-of, out-of-range}
+use Rattle.session_record.specs.Step.{answer-of, refusal-of, stepped-of}
+use Rattle.session_record.specs.Lent.{Memory, memory, memory-of, held-in, record-in, tidied, Ranged, Ready, Advanced}
+use Rattle.session_record.proofs.Range.{ranged, ranged-within}
+use Rattle.session_record.proofs.Fit.{Fit, ranged-fit, taken-fit, cuts-back, in-range}
+use Rattle.session_record.proofs.Steps.{step-refused, step-taken, answer-refusal, refusal-fits}
 
--- The arrays stored for a front hold it.
-pub fit-holds : (p : Property) → property-refusal (meant p) ≡ 0 → {c : Cuts Lengths} → Fit p c
-    → Holds p (c .front) (stored-held (c .front)) (stored-acts (c .front)) (length (c .front .held)) (stored-row (c .front))
-fit-holds p good {c} f =
-    let g = c .front in
+-- ---- which memory is ready
+
+-- The rows of a record that refusal 10 does not name.
+pub fits-ready : (s : Session) → out-of-range s ≡ false → Room (rows-of s) (span-of s) → Ready (memory-of s)
+fits-ready s e room = record { room = room; there = omega arith; ranged = ranged s e }
+
+-- While blind,
+pub blind-ready : (m : Memory) → property-refusal (meant (m .property)) ≡ 0 → Room (m .rows) (m .status .span) → 3 < length (m .rows) → m .status .span .count ≡ 0
+    → m .status .clock .blind ≡ true → m .status .clock .latest ≤ last-stamp → Ready m
+blind-ready m good room there none b limit =
     record {
-      front = front-back p good g (f .few) (order-inputs (f .order)) (f .short);
-      usable =
+      room = room;
+      there = there;
+      ranged =
           record {
             formed = good;
-            tidy =
-                record {
-                  few = f .few;
-                  held-long = length-first _ 64;
-                  acts-long = length-first _ 64;
-                  held-clean = λ i h. padded-behind 0 (map (λ (x : Held Lengths). x .line .stamp) (g .held)) 64 i (omega (arith, length-map (g .held) (λ (x : Held Lengths). x .line .stamp)));
-                  acts-clean = λ i h.
-                      padded-behind 0 (map (λ (x : Held Lengths). number-of (x .line .action)) (g .held)) 64 i
-                      (omega (arith, length-map (g .held) (λ (x : Held Lengths). number-of (x .line .action))));
-                };
-            stamps = λ i h.
-                omega (arith, stamp-stored p good g (f .few) (order-inputs (f .order)) (f .short) i h, order-within (nothing none-of) (f .order) i h, f .limit);
-            row-tidy =
-                record {
-                  masks-long = length-first _ 65;
-                  marks-long = length-first _ 65;
-                  masks-clean = λ i h. padded-behind 0 (map (λ (s : Lengths). cut-of s .mask) (sets-of g)) 65 i (omega (arith, sets-long g (λ (s : Lengths). cut-of s .mask)));
-                  marks-clean = λ i h. padded-behind 0 (map (λ (s : Lengths). cut-of s .marks) (sets-of g)) 65 i (omega (arith, sets-long g (λ (s : Lengths). cut-of s .marks)));
-                };
-            fits = stored-fits p good g (f .few) (order-inputs (f .order)) (f .short);
+            few = room .few;
+            rising = λ i h. let z : ⊥ = omega arith in absurd z;
+            last = λ i h. let z : ⊥ = omega arith in absurd z;
+            none-blind = λ h. none;
+            limit = limit;
+            fits = λ h i l. let z : true ≡ false = sym b ∙ h in let w : _≡_ {A = ℕ} 0 1 = cc in let v : ⊥ = omega arith in absurd v;
+          };
+    }
+
+-- and while a run is open, from what the rows hold.
+pub open-ready : (m : Memory) → Usable (m .property) (m .rows) (m .status .span) 0 → m .status .clock .blind ≡ false → Fit (m .property) (held-in m) → Ready m
+open-ready m u b f =
+    record {
+      room = u .room;
+      there = u .there;
+      ranged =
+          record {
+            formed = u .formed;
+            few = u .room .few;
+            rising = λ i h. omega (arith, stamp i (omega arith), stamp (suc i) h, order-next (nothing none-of) order i (subst (λ (n : ℕ). suc i < n) (sym long) h));
+            last = λ i h. omega (arith, stamp i (omega arith), order-within (nothing none-of) order i (subst (λ (n : ℕ). i < n) (sym long) (omega arith)));
+            none-blind = λ h. let z : true ≡ false = sym h ∙ b in let w : _≡_ {A = ℕ} 0 1 = cc in let v : ⊥ = omega arith in absurd v;
+            limit = f .limit;
+            fits = λ h. u .fits;
           };
     }
   where
-    sets-long : (g : Front Lengths) (w : Lengths → ℕ) → length (map w (sets-of g)) ≡ suc (length (g .held))
-    sets-long g w = length-map (sets-of g) w ∙ ap suc (length-map (g .held) (λ (h : Held Lengths). h .after))
+    own : held-in m .front ≡ front-of (m .rows) (m .status .span) 0
+    own = ap (λ (x : Bool). cond x (front-none (m .property)) (front-of (m .rows) (m .status .span) 0)) b
 
--- Arrays that are exactly those of a front make up the record of the session with that front.
-pub stored-record : (p : Property) (c : Cuts Lengths) (held acts masks marks : List ℕ) (status : Status)
-    → Stored (c .front) held acts (status .count) (row masks marks) → status .latest ≡ c .latest → status .blind ≡ c .is-blind
-    → record-of p c ≡ in-arrays p held acts masks marks status
-stored-record p c held acts masks marks status st l b =
-    sym
-    (λ i.
-    record {
-      property = p;
-      shared = record { held = st .held-are i; acts = st .acts-are i; status = record { count = st .counted i; latest = l i; blind = b i } };
-      row = st .row-is i;
-    })
+    order : InOrder 0 (front-of (m .rows) (m .status .span) 0 .held) (m .status .clock .latest)
+    order = subst (λ (x : Front Lengths). InOrder 0 (x .held) (m .status .clock .latest)) own (f .order)
 
--- ---- which records are ready
+    long : length (front-of (m .rows) (m .status .span) 0 .held) ≡ m .status .span .count
+    long = length-first (held-at (m .rows) (m .status .span) 0) (m .status .span .count)
 
-pub fit-ready : (p : Property) → property-refusal (meant p) ≡ 0 → {c : Cuts Lengths} → Fit p c → Ready (record-of p c)
-fit-ready p good f = record { fits = in-range p good f; tidy = ap (record-of p) (cuts-back p good f) }
+    stamp : (i : ℕ) → i < m .status .span .count
+        → stamp-at (nothing none-of) (front-of (m .rows) (m .status .span) 0 .held) i ≡ word (m .rows) (m .status .span) 0 i
+    stamp i h = ap (λ (x : Held Lengths). x .line .stamp) (getD-first (held-at (m .rows) (m .status .span) 0) (m .status .span .count) i (nothing none-of) h)
 
-pub tidied-ready : (s : Session) → out-of-range s ≡ false → Ready (tidied s)
-tidied-ready s e = let r = ranged s e in fit-ready (s .property) (r .formed) (ranged-fit s r)
+module _ (m : Memory) (ready : Ready m) where
+  abbrev p : Property
+  p = m .property
 
--- ---- what the arrays of a ready record hold
+  good : property-refusal (meant p) ≡ 0
+  good = ready .ranged .formed
 
-module _ (s : Session) (ready : Ready s) where
-  pub ready-ranged : Ranged s
-  ready-ranged = ranged s (ready .fits)
+  pub ready-fit : Fit (m .property) (held-in m)
+  ready-fit = ranged-fit m (ready .ranged)
 
-  own-fit : Fit (s .property) (cuts-of s)
-  own-fit = ranged-fit s ready-ranged
+  -- The record that is made of it stands for what it means, and refusal 10 does not name it.
+  pub ready-stands : cuts-of (record-in m) ≡ held-in m
+  ready-stands = cuts-back p good ready-fit
 
-  -- the front that they hold, and while blind none
-  pub ready-holds : Holds (s .property) (cuts-of s .front) (s .shared .held) (s .shared .acts) (count-of s) (s .row)
-  ready-holds =
-      subst (λ (x : Session). Holds (s .property) (cuts-of s .front) (x .shared .held) (x .shared .acts) (count-of x) (x .row)) (ready .tidy)
-      (fit-holds (s .property) (ready-ranged .formed) own-fit)
+  pub ready-fits : out-of-range (record-in m) ≡ false
+  ready-fits = in-range p good ready-fit
 
-  pub ready-stored : Stored (cuts-of s .front) (s .shared .held) (s .shared .acts) (count-of s) (s .row)
-  ready-stored =
-      subst (λ (x : Session). Stored (cuts-of s .front) (x .shared .held) (x .shared .acts) (count-of x) (x .row)) (ready .tidy)
-      (record { counted = refl; held-are = refl; acts-are = refl; row-is = refl })
+  -- What the rows hold while a run is open.
+  pub open-usable : m .status .clock .blind ≡ false → Usable (m .property) (m .rows) (m .status .span) 0
+  open-usable e =
+      record {
+        formed = good;
+        room = ready .room;
+        there = ready .there;
+        stamps = λ i h. omega (arith, ranged-within m (ready .ranged) i h, ready .ranged .limit);
+        fits = ready .ranged .fits e;
+      }
 
   -- ---- what a call leaves
 
-  -- refused: the number alone, and the record as it was
-  pub call-refused : (k : Call) (n : ℕ) → refusal-by (s .property) (cuts-of s) k ≡ n → (n ≡ 0 → ⊥) → Advanced s k (answer-of (Calls.refused n)) s
-  call-refused k n e h = record { stepped = step-refused s k n (refusal-fits s k (ready .fits) ∙ e) h; ready = ready }
+  number : (k : Call) → refusal-of (record-in m) k ≡ refusal-by p (held-in m) k
+  number k = refusal-fits (record-in m) k ready-fits ∙ ap (λ (c : Cuts Lengths). refusal-by p c k) ready-stands
 
-  -- taken: the arrays are those of the session over cuts after the call
-  pub call-taken : (k : Call) (a : Answer) (held acts masks marks : List ℕ) (status : Status) (c : Cuts Lengths)
-      → refusal-by (s .property) (cuts-of s) k ≡ 0
-      → taken-by (s .property) (cuts-of s) k ≡ c
-      → a ≡ answer-of (told-by (s .property) (cuts-of s) k)
-      → Stored (c .front) held acts (status .count) (row masks marks) → status .latest ≡ c .latest → status .blind ≡ c .is-blind
-      → Advanced s k a (in-arrays (s .property) held acts masks marks status)
-  call-taken k a held acts masks marks status c e t told st l b =
+  -- refused: the number alone, and all as it was
+  pub call-refused : (k : Call) (n : ℕ) → refusal-by (m .property) (held-in m) k ≡ n → (n ≡ 0 → ⊥) → Advanced m k (answer-of (Calls.refused n)) m
+  call-refused k n e h = record { stepped = step-refused (record-in m) k n (number k ∙ e) h; ready = ready }
+
+  -- taken: what the memory then holds is the session over cuts after the call
+  pub call-taken : (k : Call) (a : Answer) (after : Memory) → after .property ≡ m .property
+      → refusal-by (m .property) (held-in m) k ≡ 0
+      → taken-by (m .property) (held-in m) k ≡ held-in after
+      → a ≡ answer-of (told-by (m .property) (held-in m) k)
+      → Ready after → Advanced m k a after
+  call-taken k a after own e t told is-ready =
       record {
-        stepped = step-taken s k none ∙ (λ i. record { answer = sym told i; session = same i });
-        ready = subst Ready same (fit-ready (s .property) (ready-ranged .formed) (step-fit s k none));
+        stepped =
+            step-taken (record-in m) k (number k ∙ e)
+            ∙ ap (λ (c : Cuts Lengths). record { answer = answer-of (told-by p c k); session = record-of p (taken-by p c k) }) ready-stands
+            ∙ (λ i. record { answer = sym told i; session = record-of (sym own i) (t i) });
+        ready = is-ready;
       }
-    where
-      none : refusal-of s k ≡ 0
-      none = refusal-fits s k (ready .fits) ∙ e
 
-      same : record-of (s .property) (taken-by (s .property) (cuts-of s) k) ≡ in-arrays (s .property) held acts masks marks status
-      same = ap (record-of (s .property)) t ∙ stored-record (s .property) c held acts masks marks status st l b
+  pub taken-fits : (k : Call) → refusal-by (m .property) (held-in m) k ≡ 0 → Fit (m .property) (taken-by (m .property) (held-in m) k)
+  taken-fits k e = taken-fit p good ready-fit k e
 
--- ---- arrays with no open input
+-- ---- a call on a record by value, and on its rows
 
--- nothing but zeros, and the one cut of a run with no line
-pub zeros-stored : (p : Property) → Stored (front-none p) (replicate 64 0) (replicate 64 0) 0 (row (replicate 65 0) (replicate 65 0))
-unfolding first cut-of mask-to
-zeros-stored p = record { counted = refl; held-are = refl; acts-are = refl; row-is = refl }
+-- The same refusal, and taken the same session. What is refused comes back as it was.
+module _ (s : Session) (fits : out-of-range s ≡ false) (k : Call) where
+  fit : Fit (s .property) (cuts-of s)
+  fit = ranged-fit (memory-of s) (ranged s fits)
 
-pub begun-holds : (p : Property) → property-refusal (meant p) ≡ 0 → (held acts masks marks : List ℕ)
-    → Stored (front-none p) held acts 0 (row masks marks)
-    → Holds p (front-fresh p) held acts 0 (row (set masks 0 (cut-of at-start .mask)) (set marks 0 (cut-of at-start .marks)))
-unfolding first cut-of mask-to
-begun-holds p good held acts masks marks st =
-    subst (λ (r : Row). Holds p (front-fresh p) held acts 0 (row (set (r .masks) 0 1) (set (r .marks) 0 0))) (sym (st .row-is))
-    (subst (λ (h : List ℕ). Holds p (front-fresh p) h acts 0 (stored-row (front-fresh p))) (sym (st .held-are))
-    (subst (λ (a : List ℕ). Holds p (front-fresh p) (stored-held (front-none p)) a 0 (stored-row (front-fresh p))) (sym (st .acts-are))
-    (fit-holds p good (fresh-fit p))))
+  stands : cuts-of (tidied s) ≡ cuts-of s
+  stands = cuts-back (s .property) (ranged s fits .formed) fit
 
--- the record of a fresh session, and that of zeros
-pub blank-fresh : (p : Property) → blank p (cut-of at-start) ≡ record-of p (fresh-by p)
-unfolding first cut-of mask-to
-blank-fresh p = refl
+  pub tidied-refusal : refusal-of (tidied s) k ≡ refusal-of s k
+  tidied-refusal =
+      refusal-fits (tidied s) k (in-range (s .property) (ranged s fits .formed) fit)
+      ∙ ap (λ (c : Cuts Lengths). refusal-by (s .property) c k) stands
+      ∙ sym (refusal-fits s k fits)
 
-pub blank-zeros : blank no-property (cut-of none-of) ≡ no-session
-unfolding first cut-of mask-to
-blank-zeros = refl
+  pub tidied-taken : refusal-of s k ≡ 0 → stepped-of (tidied s) k ≡ stepped-of s k
+  tidied-taken e =
+      step-taken (tidied s) k (tidied-refusal ∙ e)
+      ∙ ap (λ (c : Cuts Lengths). record { answer = answer-of (told-by (s .property) c k); session = record-of (s .property) (taken-by (s .property) c k) }) stands
+      ∙ sym (step-taken s k e)
+
+  module _ (a : Answer) (after : Memory) (led : Advanced (memory-of s) k a after) where
+    told : a .refusal ≡ refusal-of s k
+    told = ap (λ (r : Stepped). r .answer .refusal) (sym (led .stepped)) ∙ answer-refusal (tidied s) k ∙ tidied-refusal
+
+    pub by-value-taken : a .refusal ≡ 0 → record { answer = a; session = record-in after } ≡ stepped-of s k
+    by-value-taken e = sym (led .stepped) ∙ tidied-taken (sym told ∙ e)
+
+    pub by-value-refused : (a .refusal ≡ 0 → ⊥) → record { answer = answer-of (Calls.refused (a .refusal)); session = s } ≡ stepped-of s k
+    by-value-refused h = sym (step-refused s k (a .refusal) (sym told) h)

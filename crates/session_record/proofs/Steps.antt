@@ -15,6 +15,7 @@ use Rattle.session_record.specs.declared.Session.{Session}
 use Rattle.session_record.specs.declared.Stepped.{Stepped}
 use Rattle.session_record.specs.Record.{cuts-of, record-of, out-of-range}
 use Rattle.session_record.specs.Step.{answer-of, refusal-of, stepped-of, no-session, fresh-of}
+use Rattle.session_record.specs.Lent.{memory-of}
 use Rattle.session_record.proofs.Range.{ranged}
 use Rattle.session_record.proofs.Fit.{Fit, ranged-fit, taken-fit, in-range}
 
@@ -70,7 +71,7 @@ pub step-fit : (s : Session) (k : Call) → refusal-of s k ≡ 0 → Fit (s .pro
 step-fit s k e =
     let fits = taken-fits s k e in
     let r = ranged s fits in
-    taken-fit (s .property) (r .formed) (ranged-fit s r) k (sym (refusal-fits s k fits) ∙ e)
+    taken-fit (s .property) (r .formed) (ranged-fit (memory-of s) r) k (sym (refusal-fits s k fits) ∙ e)
 
 -- The record after any call on one that refusal 10 does not name is not named by it either.
 pub stays-in-range : (s : Session) → out-of-range s ≡ false → (k : Call) → out-of-range (stepped-of s k .session) ≡ false

@@ -1,58 +1,109 @@
--- Calls on lent arrays: the record that they make up, and what is promised of it.
-use Prim.Native.Nat.{ℕ}
+-- Calls on lent memory: what it means, and what is promised of it.
+use Prim.Native.Nat.{ℕ, suc, _≤_, _<_}
 use mathlib.Core.Path.{_≡_}
-use mathlib.Core.Bool.{false}
+use mathlib.Core.Bool.{true, false}
 use mathlib.Core.List.{List, _∷_}
 use lib.ListN.{length, replicate}
-use Rattle.meaning.specs.Calls.{Call}
+use Rattle.meaning.specs.Limits.{last-stamp}
+use Rattle.meaning.specs.Numbers.{property-refusal}
+use Rattle.meaning.specs.Calls.{Call, fresh-clock}
 use Rattle.meaning.specs.Matcher.{Lengths}
-use Rattle.meaning.specs.Step.{Front}
+use Rattle.meaning.specs.Step.{Front, Cuts}
+use Rattle.property.specs.Meant.{meant}
 use Rattle.property.specs.declared.Property.{Property}
 use Rattle.matcher.specs.declared.Cut.{Cut}
+use Rattle.matcher.specs.Sets.{Fits}
+use Rattle.laws.specs.Places.{first, padded}
+use Rattle.rows.specs.declared.Span.{Span}
+use Rattle.rows.specs.Rows.{spanning, none, word, Room}
+use Rattle.clock.specs.declared.Clock.{Clock}
+use Rattle.clock.specs.Time.{stored-clock}
 use Rattle.held.specs.declared.Status.{Status}
 use Rattle.cuts.specs.Steps.{front-says, says}
-use Rattle.cuts.specs.Arrays.{row, Holds}
+use Rattle.cuts.specs.Fronts.{cut-at, Holds}
 use Rattle.session_record.specs.declared.Session.{Session}
 use Rattle.session_record.specs.declared.Answer.{Answer}
 use Rattle.session_record.specs.declared.Told.{Told}
-use Rattle.session_record.specs.Record.{cuts-of, record-of, out-of-range}
+use Rattle.session_record.specs.Record.{rows-of, cuts-in, record-of}
 use Rattle.session_record.specs.Step.{answer-of, stepped-of}
 
--- The record that lent arrays and the numbers beside them make up.
-abbrev pub in-arrays : Property → List ℕ → List ℕ → List ℕ → List ℕ → Status → Session
-in-arrays p held acts masks marks status =
-    record { property = p; shared = record { held = held; acts = acts; status = status }; row = row masks marks }
+-- What is lent: the rows, with what stands beside them, of a session with a property.
+pub record Memory : Type 0 where
+  pub property : Property
+  pub rows : List (List ℕ)
+  pub status : Status
 
--- Arrays with all their places: 64 open inputs, "never more than sixty-five cuts".
-pub record Whole (held acts masks marks : List ℕ) : Type 0 where
-  pub held-long : length held ≡ 64
-  pub acts-long : length acts ≡ 64
-  pub masks-long : length masks ≡ 65
-  pub marks-long : length marks ≡ 65
+abbrev pub memory : Property → List (List ℕ) → Status → Memory
+memory p rows status = record { property = p; rows = rows; status = status }
 
--- A session with no open input, its one cut as given.
-abbrev pub blank : Property → Cut → Session
-blank p c =
-    in-arrays p (replicate 64 0) (replicate 64 0) (c .mask ∷ replicate 64 0) (c .marks ∷ replicate 64 0)
-    (record { count = 0; latest = 0; blind = false })
+abbrev pub memory-of : Session → Memory
+memory-of s = memory (s .property) (rows-of s) (s .shared .status)
+
+-- It means the session over cuts that it holds, and this is the record that is made of it.
+abbrev pub held-in : Memory → Cuts Lengths
+held-in m = cuts-in (m .property) (m .rows) (m .status)
+
+abbrev pub record-in : Memory → Session
+record-in m = record-of (m .property) (held-in m)
 
 -- The record with 0 in each place not in use.
 abbrev pub tidied : Session → Session
-tidied s = record-of (s .property) (cuts-of s)
+tidied s = record-in (memory-of s)
 
--- A record that a call can start from: refusal 10 does not name it, and places not in use hold 0.
-pub record Ready (s : Session) : Type 0 where
-  pub fits : out-of-range s ≡ false
-  pub tidy : tidied s ≡ s
+-- What refusal 10 does not name, part by part.
+pub record Ranged (m : Memory) : Type 0 where
+  pub formed : property-refusal (meant (m .property)) ≡ 0
+  pub few : m .status .span .count ≤ 64
+  pub rising : (i : ℕ) → suc i < m .status .span .count → word (m .rows) (m .status .span) 0 i ≤ word (m .rows) (m .status .span) 0 (suc i)
+  pub last : (i : ℕ) → suc i ≡ m .status .span .count → word (m .rows) (m .status .span) 0 i ≤ m .status .clock .latest
+  pub none-blind : m .status .clock .blind ≡ true → m .status .span .count ≡ 0
+  pub limit : m .status .clock .latest ≤ last-stamp
+  pub fits : m .status .clock .blind ≡ false → (i : ℕ) → i ≤ m .status .span .count → Fits (m .property) (cut-at (m .rows) (m .status .span) 0 i)
 
--- A call leads from a record to an answer and the next record, from which a next call can start.
-pub record Advanced (s : Session) (c : Call) (a : Answer) (after : Session) : Type 0 where
-  pub stepped : stepped-of s c ≡ record { answer = a; session = after }
+-- A call can start from it.
+pub record Ready (m : Memory) : Type 0 where
+  pub room : Room (m .rows) (m .status .span)
+  pub there : 3 < length (m .rows)
+  pub ranged : Ranged m
+
+-- A call leads from what the memory means to an answer and what it means then, and a next call can start from that.
+pub record Advanced (m : Memory) (c : Call) (a : Answer) (after : Memory) : Type 0 where
+  pub stepped : stepped-of (record-in m) c ≡ record { answer = a; session = record-in after }
   pub ready : Ready after
 
--- A line of a run, taken: the arrays are those of the front after it, and the answer is read off that front.
-pub record LineTaken (p : Property) (f : Front Lengths) (t : ℕ) (held acts masks marks : List ℕ) (r : Told) : Type 0 where
-  pub holds : Holds p f held acts (r .status .count) (row masks marks)
+-- A line of a run, taken: the rows hold the front after it, and the answer is read off that front.
+pub record LineTaken (p : Property) (f : Front Lengths) (clock : Clock) (rows : List (List ℕ)) (r : Told) : Type 0 where
+  pub holds : Holds p f rows (r .status .span) 0
   pub answered : r .answer ≡ answer-of (says p (front-says p f) (length (f .held)))
-  pub stamped : r .status .latest ≡ t
-  pub seen : r .status .blind ≡ false
+  pub clocked : r .status .clock ≡ clock
+
+-- The record of rows, place by place, of which so many cuts are in use.
+abbrev pub packed : List (List ℕ) → Span → ℕ → ℕ → List ℕ
+packed rows s k n = padded 65 0 (first (word rows s k) n)
+
+abbrev pub packed-of : Property → List (List ℕ) → Span → ℕ → Clock → Session
+packed-of p rows s cuts clock =
+    record {
+      property = p;
+      shared =
+          record {
+            held = packed rows s 0 (s .count);
+            acts = packed rows s 1 (s .count);
+            status = record { span = spanning (s .count); clock = clock };
+          };
+      row = record { masks = packed rows s 2 cuts; armed = packed rows s 3 cuts };
+    }
+
+-- A record with no open input, its one cut as given.
+abbrev pub blank : Property → Cut → Session
+blank p c =
+    record {
+      property = p;
+      shared =
+          record {
+            held = replicate 65 0;
+            acts = replicate 65 0;
+            status = record { span = none; clock = stored-clock fresh-clock };
+          };
+      row = record { masks = c .mask ∷ replicate 64 0; armed = c .armed ∷ replicate 64 0 };
+    }

@@ -5,7 +5,7 @@ use mathlib.Core.List.{List, [], _∷_}
 use lib.ListN.{replicate}
 use Rattle.meaning.specs.Numbers.{given, first-of, property-refusal}
 use Rattle.meaning.specs.Node.{Verdict, verdict-number}
-use Rattle.meaning.specs.Calls.{Call, unless-refused}
+use Rattle.meaning.specs.Calls.{Call, fresh-clock, unless-refused}
 use Rattle.meaning.specs.Calls
 use Rattle.property.specs.Meant.{meant}
 use Rattle.property.specs.declared.Property.{Property}
@@ -36,7 +36,7 @@ abbrev pub no-property : Property
 no-property = record { n = 0; output = replicate 32 false; number = replicate 32 0; allowed = 0; lb = 0; ub = 0 }
 
 abbrev pub no-session : Session
-no-session = record-of no-property (record { is-blind = false; front = front-none no-property; latest = 0 })
+no-session = record-of no-property (record { clock = fresh-clock; front = front-none no-property })
 
 -- What a fresh call gives back: taken, "an empty run, verdict 0 and latest stamp 0", the property as it was given; refused, the
 -- number of the property's refusal and a session of zeros.

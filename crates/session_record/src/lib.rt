@@ -1,15 +1,24 @@
-// The session record, which the caller keeps; what calls on it give back; refusal 10.
+// The session record, which the caller keeps; the rows of it that are lent, and the way back; what calls on it give back; refusal 10.
+ghost use Prim.Native.Nat.{ℕ, _≤_, _<_};
 ghost use mathlib.Core.Path.{_≡_};
+ghost use lib.ListN.{length};
 ghost use Rattle.meaning.specs.Calls;
-ghost use Rattle.session_record.specs.Record.{out-of-range};
+ghost use Rattle.rows.specs.declared.Span.{Span};
+ghost use Rattle.rows.specs.Rows.{Room};
+ghost use Rattle.session_record.specs.Record.{rows-of, out-of-range};
 ghost use Rattle.session_record.specs.Step.{answer-of};
-ghost use Rattle.session_record.specs.Lent.{in-arrays};
+ghost use Rattle.session_record.specs.Lent.{memory, record-in, Ready, packed-of};
+ghost use Rattle.session_record.specs.Lent;
+use clock::Clock;
 use cuts::Row;
 use held::Shared;
 use held::Status;
 use limits::LAST_STAMP;
 use limits::MOST_OPEN;
+use matcher::Cut;
 use property::Property;
+use rows::Span;
+use rows::Words;
 
 pub struct Session {
     pub property: Property,
@@ -32,10 +41,26 @@ pub struct Stepped {
     pub session: Session,
 }
 
-// What a call on lent arrays gives back beside them.
+// What a call on lent rows gives back beside them.
 pub struct Told {
     pub answer: Answer,
     pub status: Status,
+}
+
+// The rows of one session, in the order in which they are lent: stamps, actions, and the two words of each cut.
+pub type Block = [Words; 4];
+
+// The rows of a record.
+pub fn rows_of(s: Session) -> Block
+    ensures { λ r. ⌜ (r ≡ rows-of s) × (length r ≡ 4) × ((span : Span) → span .count ≤ 64 → Room r span) ⌝ }
+{
+    let shared = s.shared;
+    let row = s.row;
+    let held = shared.held;
+    let acts = shared.acts;
+    let masks = row.masks;
+    let armed = row.armed;
+    [held, acts, masks, armed]
 }
 
 // The record is one that refusal 10 names.
@@ -48,38 +73,51 @@ pub fn unfit(s: Session) -> bool
     }
     let shared = s.shared;
     let status = shared.status;
-    let count = status.count;
-    if MOST_OPEN < count {
+    let span = status.span;
+    let clock = status.clock;
+    if MOST_OPEN < span.count {
         return true;
     }
-    let held = shared.held;
-    let latest = status.latest;
-    if held::falls(&held, count, latest) {
+    let rows = rows_of(s);
+    if held::falls(&rows, span, clock.latest) {
         return true;
     }
-    if LAST_STAMP < latest {
+    if LAST_STAMP < clock.latest {
         return true;
     }
-    if status.blind {
-        return 0 < count;
+    if clock.blind {
+        return 0 < span.count;
     }
-    let row = s.row;
-    let masks = row.masks;
-    let marks = row.marks;
-    cuts::strays(&masks, &marks, count, p.n)
+    cuts::strays(&rows, span, 0, p.n)
 }
 
-// The record of arrays and numbers.
-pub fn made(
-    p: Property,
-    held: [u64; 64],
-    acts: [u8; 64],
-    masks: [u64; 65],
-    marks: [u64; 65],
-    status: Status,
-) -> Session
-    ensures { λ r. ⌜ r ≡ in-arrays p held acts masks marks status ⌝ }
+// The first n words of row k, and zeros behind them.
+fn packed(rows: &[Words], span: Span, k: usize, n: usize) -> Words
+    requires { ⌜ Room (now rows) span × (k < length (now rows)) × (n ≤ 65) ⌝ }
+    ensures { λ r. ⌜ r ≡ Lent.packed (now (rows .entry)) span k n ⌝ }
 {
+    let mut r = [0u64; 65];
+    let mut i = 0;
+    while i < n {
+        r[i] = rows::word(rows, span, k, i);
+        i += 1;
+    }
+    r
+}
+
+// The record of these rows, of which so many cuts are in use.
+fn stored(p: Property, rows: &[Words], span: Span, cuts: usize, clock: Clock) -> Session
+    requires { ⌜ Room (now rows) span × (3 < length (now rows)) × (cuts ≤ 65) ⌝ }
+    ensures { λ r. ⌜ r ≡ packed-of p (now (rows .entry)) span cuts clock ⌝ }
+{
+    let held = packed(rows, span, 0, span.count);
+    let acts = packed(rows, span, 1, span.count);
+    let masks = packed(rows, span, 2, cuts);
+    let armed = packed(rows, span, 3, cuts);
+    let status = Status {
+        span: rows::spanning(span.count),
+        clock: clock,
+    };
     let shared = Shared {
         held: held,
         acts: acts,
@@ -87,7 +125,48 @@ pub fn made(
     };
     let row = Row {
         masks: masks,
-        marks: marks,
+        armed: armed,
+    };
+    Session {
+        property: p,
+        shared: shared,
+        row: row,
+    }
+}
+
+// The record for the caller, of what the rows hold: nothing stands in places not in use.
+pub fn made(p: Property, rows: &[Words], status: Status) -> Session
+    requires { ⌜ Ready (memory p (now rows) status) ⌝ }
+    ensures { λ r. ⌜ r ≡ record-in (memory p (now (rows .entry)) status) ⌝ }
+{
+    let span = status.span;
+    let clock = status.clock;
+    if clock.blind {
+        return stored(p, rows, rows::spanning(0), 0, clock);
+    }
+    stored(p, rows, span, span.count + 1, clock)
+}
+
+// A record with no open input, its one cut as given.
+pub fn blank(p: Property, first: Cut) -> Session
+    ensures { λ r. ⌜ r ≡ Lent.blank p first ⌝ }
+{
+    let mut masks = [0u64; 65];
+    let mut armed = [0u64; 65];
+    masks[0] = first.mask;
+    armed[0] = first.armed;
+    let status = Status {
+        span: rows::spanning(0),
+        clock: clock::fresh(),
+    };
+    let shared = Shared {
+        held: [0u64; 65],
+        acts: [0u64; 65],
+        status: status,
+    };
+    let row = Row {
+        masks: masks,
+        armed: armed,
     };
     Session {
         property: p,

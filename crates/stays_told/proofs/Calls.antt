@@ -2,14 +2,14 @@
 -- closes is above the one that the run followed by what was lost would have had.
 use Prim.Native.Nat.{ℕ, zero, suc, _≤_}
 use mathlib.Core.Path.{_≡_, refl, sym, _∙_, ap, subst}
-use mathlib.Core.Bool.{Bool, true, false, cond}
+use mathlib.Core.Bool.{Bool, false, cond}
 use mathlib.Core.List.{List, [], _∷_, _++_, append-nil}
 use native.Mathlib.Omega.{arith}
 use native.Mathlib.Nat.{le-trans}
 use Rattle.meaning.specs.Words.{Property, Line, Run, StampsFrom}
 use Rattle.meaning.specs.Node.{Breaks, Verdict, verdict-number, IsVerdict}
 use Rattle.meaning.specs.Numbers.{property-refusal}
-use Rattle.meaning.specs.Calls.{Mark, Call, Watch, fresh, beyond, with-line, refusal, taken, unless-refused, next, watched, AllTaken, kept, Standing}
+use Rattle.meaning.specs.Calls.{Mark, Call, Clock, Watch, fresh, with-line, refusal, taken, unless-refused, next, watched, AllTaken, kept, Standing}
 use Rattle.meaning.specs.Calls.{Answer, AnswerBy, IsAnswer}
 use Rattle.meaning.specs.Matcher.{Lengths}
 use Rattle.meaning.specs.Step.{Front, Cuts, lengths, front-with, fresh-front, front-verdict, grown, cuts-verdict}
@@ -21,8 +21,9 @@ use Rattle.meaning.proofs.Sets.{Reading}
 use Rattle.meaning.proofs.Lengths.{lengths-reading}
 use Rattle.meaning.proofs.Exact.{Fits, fresh-fits, front-fits, front-verdict-exact}
 use Rattle.meaning.proofs.Calls.{Agrees, open-run, blind, grown-agrees, standing-agrees}
-use Rattle.meaning.proofs.Histories.{open-watch, call-lines, watched-append, watched-last, runs-on, kept-same, kept-taken, lines-append}
-use Rattle.stays_told.specs.Stays.{SameRun, ClosedNotAbove, StandingStays, AnswersStay}
+use Rattle.meaning.proofs.Clocks.{open-watch, blind-is, by-time-each}
+use Rattle.meaning.proofs.Histories.{call-lines, watched-append, watched-last, runs-on, kept-same, kept-taken, lines-append}
+use Rattle.stays_told.specs.Stays.{NeverFalls, SameRun, ClosedNotAbove, StandingStays, AnswersStay}
 use Rattle.stays_told.proofs.NeverFalls.{never-falls}
 
 -- ---- stamps that never fall, with lines left out
@@ -39,15 +40,12 @@ module _ (p : Property) where
       alone : StampsFrom 0 (l ∷ rest)
       alone = from-right 0 (w .run) (l ∷ rest) f
 
-      by : (blind far : Bool)
-          → StampsFrom 0 ((cond {A = Watch} blind (cond far (record { is-blind = false; run = l ∷ []; latest = l .stamp }) (record { is-blind = true; run = []; latest = l .stamp }))
-          (record { is-blind = false; run = w .run ++ l ∷ []; latest = l .stamp })) .run ++ rest)
-      by true true = alone
-      by true false = from-weaker rest (alone .0) (alone .1)
-      by false far = subst (StampsFrom 0) (sym (snoc-append (w .run) l rest)) f
-
       by-number : (n : ℕ) → StampsFrom 0 (unless-refused n (with-line p w l) w .run ++ rest)
-      by-number zero = by (w .is-blind) (beyond p (w .latest) (l .stamp))
+      by-number zero =
+          by-time-each p (w .clock) (l .stamp) _ _ _ (λ (x : Watch). StampsFrom 0 (x .run ++ rest))
+          (λ e far. alone)
+          (λ e near. from-weaker rest (alone .0) (alone .1))
+          (λ e. subst (StampsFrom 0) (sym (snoc-append (w .run) l rest)) f)
       by-number (suc n) = from-less 0 (w .run) l rest f
 
   mark-leaves : (w : Watch) (g : Mark) (rest : List Line) → StampsFrom 0 (w .run ++ rest) → StampsFrom 0 (next p w (Call.mark g) .run ++ rest)
@@ -58,7 +56,8 @@ module _ (p : Property) where
       by-number (suc n) = f
 
   -- the run is made of lines of the full history
-  run-logged : (w : Watch) (h : List Event) (rest : List Line) → StampsFrom 0 (w .run ++ (all-lines h ++ rest)) → StampsFrom 0 (watched p w (fed h) .run ++ rest)
+  run-logged : (w : Watch) (h : List Event) (rest : List Line) → StampsFrom 0 (w .run ++ (all-lines h ++ rest))
+      → StampsFrom 0 (watched p w (fed h) .run ++ rest)
   unfolding watched fed all-lines
   run-logged w [] rest f = f
   run-logged w (Event.line l ∷ h) rest f = run-logged (next p w (Call.line l)) h rest (line-leaves w l (all-lines h ++ rest) f)
@@ -68,15 +67,17 @@ module _ (p : Property) where
   -- ---- calls of one run
 
   -- the run goes on by the lines that are taken
-  grew : (w : Watch) (more : List Call) → SameRun p w more → (t : ℕ) × (watched p w more ≡ open-watch (w .run ++ call-lines (kept p w more)) t)
+  grew : (w : Watch) (more : List Call) → SameRun p w more
+      → (later : Clock) × (watched p w more ≡ open-watch (w .run ++ call-lines (kept p w more)) later)
   grew w more s =
       let taken-calls : List Call = kept p w more in
-      let same : w ≡ open-watch (w .run) (w .latest) = λ i. record { is-blind = s .open-before i; run = w .run; latest = w .latest } in
-      let r = runs-on p (w .run) (w .latest) taken-calls (subst (λ (x : Watch). AllTaken p x taken-calls) same (kept-taken p w more)) (s .no-mark) in
+      let same : w ≡ open-watch (w .run) (w .clock) =
+      ap {B = Watch} (λ (k : Clock). record { clock = k; run = w .run }) (blind-is (w .clock) (s .open-before)) in
+      let r = runs-on p (w .run) (w .clock) taken-calls (subst (λ (x : Watch). AllTaken p x taken-calls) same (kept-taken p w more)) (s .no-mark) in
       (r .0, sym (kept-same p w more) ∙ ap (λ (x : Watch). watched p x taken-calls) same ∙ r .1)
 
   -- a line more, taken or refused, is of the same run
-  pub with-line-more : (w : Watch) (l : Line) → w .is-blind ≡ false → SameRun p w (Call.line l ∷ [])
+  pub with-line-more : (w : Watch) (l : Line) → w .clock .is-blind ≡ false → SameRun p w (Call.line l ∷ [])
   unfolding kept NoMark
   with-line-more w l e = record { open-before = e; no-mark = by (refusal p w (Call.line l)) }
     where
@@ -84,10 +85,10 @@ module _ (p : Property) where
       by zero = tt
       by (suc n) = tt
 
-  pub still-open : (calls more : List Call) → SameRun p (watched p fresh calls) more → watched p fresh (calls ++ more) .is-blind ≡ false
-  still-open calls more s = ap (λ (x : Watch). x .is-blind) (watched-append p fresh calls more ∙ grew (watched p fresh calls) more s .1)
+  pub still-open : (calls more : List Call) → SameRun p (watched p fresh calls) more → watched p fresh (calls ++ more) .clock .is-blind ≡ false
+  still-open calls more s = ap (λ (x : Watch). x .clock .is-blind) (watched-append p fresh calls more ∙ grew (watched p fresh calls) more s .1)
 
-  on-open : (w : Watch) (v : Verdict) → w .is-blind ≡ false → Standing p w v → IsVerdict p (w .run) v
+  on-open : (w : Watch) (v : Verdict) → w .clock .is-blind ≡ false → Standing p w v → IsVerdict p (w .run) v
   on-open w v e h = subst (λ (b : Bool). cond b (v ≡ Verdict.blind) (IsVerdict p (w .run) v)) e h
 
   -- a gap mark's answer is not above n where the verdict that stands is not; refused it is 0
@@ -115,11 +116,12 @@ module _ (p : Property) (good : property-refusal p ≡ 0) where
   abbrev R : Reading p (Breaks p)
   R = lengths-reading p good
 
-  never : (run : Run) (more : List Line) → StampsFrom 0 (run ++ more) → (v w : Verdict) → IsVerdict p run v → IsVerdict p (run ++ more) w → verdict-number v ≤ verdict-number w
+  never : NeverFalls p
   never = never-falls p (R .bounds .least) (R .bounds .order)
 
   -- every run with stamps that never fall has a verdict
-  fits : (t : ℕ) (run : Run) (f : Front Lengths) → Fits R t run f → (more : List Line) → StampsFrom t more → (u : ℕ) × (g : Front Lengths) × Fits R u (run ++ more) g
+  fits : (t : ℕ) (run : Run) (f : Front Lengths) → Fits R t run f → (more : List Line) → StampsFrom t more
+      → (u : ℕ) × (g : Front Lengths) × Fits R u (run ++ more) g
   fits t run f fit [] rise = (t, f, subst (λ (r : Run). Fits R t r f) (sym (append-nil run)) fit)
   fits t run f fit (l ∷ more) rise =
       let r = fits (l .stamp) (run ++ l ∷ []) (front-with p (lengths p) f l) (front-fits R t run f fit l (rise .0)) more (rise .1) in
@@ -131,8 +133,8 @@ module _ (p : Property) (good : property-refusal p ≡ 0) where
       (front-verdict p (lengths p) (r .1), front-verdict-exact R run (r .2))
 
   run-rises : {w : Watch} {c : Cuts Lengths} → Agrees R w c → StampsFrom 0 (w .run)
-  run-rises (open-run run latest f fit few) = fit .rising
-  run-rises (blind latest) = tt
+  run-rises (open-run run clock f fit few) = fit .rising
+  run-rises (blind clock) = tt
 
   pub standing-stays : StandingStays p
   standing-stays calls more s v w h k =
@@ -156,8 +158,8 @@ module _ (p : Property) (good : property-refusal p ≡ 0) where
       joined : watched p fresh ((calls ++ Call.line l ∷ []) ++ more) ≡ later
       joined = ap (watched p fresh) (snoc-append calls (Call.line l) more)
 
-      later-open : later .is-blind ≡ false
-      later-open = ap (λ (x : Watch). x .is-blind) (sym joined) ∙ still-open p (calls ++ Call.line l ∷ []) more s
+      later-open : later .clock .is-blind ≡ false
+      later-open = ap (λ (x : Watch). x .clock .is-blind) (sym joined) ∙ still-open p (calls ++ Call.line l ∷ []) more s
 
       -- from the earlier answer to what stands before the later call
       up-to : (v u : Verdict) → Standing p earlier v → Standing p later u → verdict-number v ≤ verdict-number u
@@ -178,8 +180,9 @@ module _ (p : Property) (good : property-refusal p ≡ 0) where
       by-first : (n : ℕ) → refusal p (watched p fresh calls) (Call.line l) ≡ n → AnswerBy n p (watched p fresh calls) (Call.line l) a → a .verdict ≤ b .verdict
       by-first (suc n) z h = subst (λ (m : ℕ). m ≤ b .verdict) (sym (ap (λ (x : Answer). x .verdict) h)) (omega arith)
       by-first zero z h =
-          let after : earlier ≡ with-line p (watched p fresh calls) l =
-          watched-last p fresh calls (Call.line l) ∙ unless-taken (refusal p (watched p fresh calls) (Call.line l)) (with-line p (watched p fresh calls) l) (watched p fresh calls) z in
+          let at : Watch = watched p fresh calls in
+          let after : earlier ≡ with-line p at l =
+          watched-last p fresh calls (Call.line l) ∙ unless-taken (refusal p at (Call.line l)) (with-line p at l) at z in
           subst (λ (m : ℕ). m ≤ b .verdict) (sym (h .told))
           (to-call c t (subst (λ (n : ℕ). AnswerBy n p later c b) t hb) (h .verdict) (subst (λ (x : Watch). Standing p x (h .verdict)) (sym after) (h .stands)))
 

@@ -29,13 +29,13 @@ NeverFallsAfter p =
 abbrev pub ClosedNotAbove : Property → Type 0
 ClosedNotAbove p =
     (calls : List Call) (logged behind : List Event) → kept p fresh calls ≡ fed logged → Premises (logged ++ behind)
-    → watched p fresh calls .is-blind ≡ false
+    → watched p fresh calls .clock .is-blind ≡ false
     → (g : Mark) (a : Answer) → IsAnswer p (watched p fresh calls) (Call.mark g) a
     → (w : Verdict) → IsVerdict p (watched p fresh calls .run ++ all-lines behind) w → a .verdict ≤ verdict-number w
 
 -- A run is open, and these calls do not close it: no gap mark among them is taken. Refused calls may be among them.
 pub record SameRun (p : Property) (w : Watch) (more : List Call) : Type 0 where
-  pub open-before : w .is-blind ≡ false
+  pub open-before : w .clock .is-blind ≡ false
   pub no-mark : NoMark (kept p w more)
 
 -- The verdict that stands after more calls of the same run is not below the one that stood before them.

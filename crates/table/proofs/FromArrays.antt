@@ -22,4 +22,4 @@ next-from-arrays p k a h =
 
 pub is-table : (p : Property) (t : List ℕ) → Made (action-at (p .output) (p .number)) (p .n) t → IsTable p t
 is-table p t m =
-    record { looked-up = λ out act k h. m .right out act k h ∙ next-from-arrays p k (action-of out act) h }
+    record { looked-up = λ output action k h. m .right output action k h ∙ next-from-arrays p k (action-of output action) h }

@@ -1,45 +1,81 @@
 -- `cuts::sweep` meets its contract. The loop: the cuts before i have their new sets, and `cut` is that of i.
-use Prim.Native.Nat.{ℕ, _+_, _-_, _≤_}
+use Prim.Native.Nat.{ℕ, _+_, _*_, _-_, _≤_, _<_}
 use mathlib.Core.Path.{_≡_, sym, ap, subst, _∙_}
+use mathlib.Core.Bool.{true}
+use mathlib.Core.List.{List}
 use native.Mathlib.Omega.{arith}
-use borrow.Author.Needs.{needs}
+use lib.ListN.{length}
+use Rattle.rows.specs.Rows.{word}
+use Rattle.meaning.specs.Words.{Line}
+use Rattle.meaning.specs.Limits.{last-stamp}
 use Rattle.meaning.specs.Matcher.{moved}
 use Rattle.property.specs.Meant.{meant}
-use mathlib.Core.Bool.{true}
 use Rattle.matcher.specs.declared.Cut.{Cut}
 use Rattle.matcher.specs.Sets.{set-of, Fits}
 use Rattle.cuts.specs.Steps.{line-of}
-use Rattle.cuts.specs.Arrays.{row}
-use Rattle.cuts.proofs.Rows.{with-cut, Sweeping, new-set, sweeping-none, sweeping-more, new-set-next, new-set-none, row-swept}
+use Rattle.cuts.specs.Fronts.{cut-at}
+use Rattle.cuts.proofs.Sweeps.{line-kept, Sweeping, new-set, sweeping-none, sweeping-more, new-set-next, new-set-none, rows-swept}
+use borrow.Author.Needs.{needs}
 use Rattle.cuts.proofs.sweep.Statement.{statement}
 use Rattle.cuts.proofs.sweep.Tie as tie
 
 abbrev Inv-loop : tie.InvT-loop
-Inv-loop p table held acts masks₀ marks₀ count act t cut₀ i₀ masks marks cut i =
-    (i ≤ count) × Sweeping p held acts (row masks₀ marks₀) act t i (row masks marks)
-    × (set-of cut ≡ new-set p held acts (row masks₀ marks₀) act t i) × Fits p cut
+Inv-loop p table rows₀ span j action stamp count cut₀ i₀ rows cut i = 
+    (i ≤ span .count) × Sweeping p rows₀ span j action stamp i rows × (set-of cut ≡ new-set p rows₀ span j action stamp i) × Fits p cut
 
 abbrev μ-loop : tie.MeasureT-loop
-μ-loop p table held acts masks₀ marks₀ count act t cut₀ i₀ masks marks cut i = count - i
+μ-loop p table rows₀ span j action stamp count cut₀ i₀ rows cut i = span .count - i
+
+-- From what was read of an open input back to the turn of the loop, and from there to the entry.
+abbrev looking : tie.After-cut-at2 Inv-loop μ-loop → tie.At-loop Inv-loop μ-loop
+looking k = k .before .before .before
+
+abbrev held : tie.After-word2 Inv-loop μ-loop → tie.After-word Inv-loop μ-loop
+held k = k .before .before
+
+abbrev read : tie.After-word2 Inv-loop μ-loop → tie.After-cut-at2 Inv-loop μ-loop
+read k = held k .before .before
+
+abbrev turn : tie.After-word2 Inv-loop μ-loop → tie.At-loop Inv-loop μ-loop
+turn k = looking (read k)
+
+abbrev entry : tie.At-loop Inv-loop μ-loop → tie.Start Inv-loop μ-loop
+entry t = t .before .before .before .before
+
+abbrev last : tie.After-rows2 Inv-loop μ-loop → tie.At-loop Inv-loop μ-loop
+last c = c .before .before .before .before
+
+few : (t : tie.At-loop Inv-loop μ-loop) → entry t .args .span .count ≤ 64
+few t = entry t .pre .0 .room .few
+
+under : (k : tie.After-word2 Inv-loop μ-loop) → turn k .loop .i < entry (turn k) .args .span .count
+under k = read k .before .before .loop-test .taken
+
+there : (t : tie.At-loop Inv-loop μ-loop) → 3 + 2 * entry t .args .j < length (t .loop .rows)
+there t = subst (λ (n : ℕ). 3 + 2 * entry t .args .j < n) (sym (t .loop .inv .1 .tall)) (entry t .pre .0 .there)
+
+-- the stamps are as they were
+stamp-read : (t : tie.At-loop Inv-loop μ-loop)
+    → word (t .loop .rows) (entry t .args .span) 0 (t .loop .i) ≡ word (entry t .args .rows .now) (entry t .args .span) 0 (t .loop .i)
+stamp-read t = ap (λ (l : Line). l .stamp) (line-kept (entry t .args .span) (entry t .args .j) (entry t .args .rows .now) (t .loop .rows) (t .loop .inv .1 .others) (t .loop .i))
 
 cut-at-requires : tie.Need-cut-at-requires Inv-loop μ-loop
-cut-at-requires c κs = search needs
+cut-at-requires c κs = (c .before .pre .0 .room, c .before .pre .0 .there, omega arith)
 
 moved-requires : tie.Need-moved-requires Inv-loop μ-loop
 moved-requires c κs =
-    let b = c .before .before .before in
+    let b = c .before .before in
     (b .pre .0 .formed, b .pre .1, subst (Fits (b .args .p)) (sym (c .cut-at .ensures)) (b .pre .0 .fits 0 (omega arith)))
 
 loop-holds : tie.Need-loop-holds Inv-loop μ-loop
 loop-holds c =
-    let b = c .before .before .before .before in
-    let a = b .args in
-    let r = row (a .masks .now) (a .marks .now) in (
+    let b = c .before .before .before in
+    let a = b .args in (
       omega arith,
-      sweeping-none (a .p) (a .held .now) (a .acts .now) r (a .act) (a .t) (b .pre .0 .row-tidy .masks-long, b .pre .0 .row-tidy .marks-long),
-      c .moved .ensures .set (a .t)
-          ∙ ap (λ (x : Cut). moved (meant (a .p)) (set-of x) (line-of true (a .act) (a .t))) (c .before .cut-at .ensures)
-          ∙ new-set-none (a .p) (a .held .now) (a .acts .now) r (a .act) (a .t),
+      sweeping-none (a .p) (a .rows .now) (a .span) (a .j) (a .action) (a .stamp) (b .pre .0 .room),
+      c .moved .ensures .set (a .stamp)
+          ∙ ap (λ (x : Cut). moved (meant (a .p)) (set-of x) (line-of true (a .action) (a .stamp))) (c .before .cut-at .ensures)
+          ∙ new-set-none (a .p) (a .rows .now) (a .span) (a .j) (a .action) (a .stamp),
       c .moved .ensures .fits,
     )
 
@@ -47,40 +83,29 @@ add-cut-at : tie.Need-add-cut-at Inv-loop μ-loop
 add-cut-at c = search needs
 
 cut-at-requires-2 : tie.Need-cut-at-requires-2 Inv-loop μ-loop
-cut-at-requires-2 c κs = omega (arith, c .before .before .before .before .before .before .before .before .pre .0 .tidy .few)
+cut-at-requires-2 c κs = let t = c .before .before in (t .loop .inv .1 .room, there t, omega (arith, few t))
 
-mul-swept-cut : tie.Need-mul-swept-cut Inv-loop μ-loop
-mul-swept-cut c = search needs
+word-requires : tie.Need-word-requires Inv-loop μ-loop
+word-requires c κs = let t = looking (c .before) in (t .loop .inv .1 .room, omega (arith, t .loop .inv .1 .room .shared), omega (arith, few t))
 
-element-copy-out-swept-cut : tie.Need-element-copy-out-swept-cut Inv-loop μ-loop
-element-copy-out-swept-cut c = search needs
-
-element-copy-out-swept-cut-2 : tie.Need-element-copy-out-swept-cut-2 Inv-loop μ-loop
-element-copy-out-swept-cut-2 c = search needs
+word-requires-2 : tie.Need-word-requires-2 Inv-loop μ-loop
+word-requires-2 c κs = let t = looking (c .before .before .before) in (t .loop .inv .1 .room, t .loop .inv .1 .room .shared, omega (arith, few t))
 
 swept-cut-requires : tie.Need-swept-cut-requires Inv-loop μ-loop
 swept-cut-requires c κs =
-    let b = c .before .before .before .before .before .before .before .before .before .before .before in
-    let w = c .before .before .before .before .before .before .loop in
-    let after = c .before .before .cut-at2 in (
+    let t = turn c in
+    let b = entry t in
+    let w = t .loop in (
       b .pre .0 .formed,
       b .pre .1,
-      b .pre .0 .stamps (w .i) (omega arith),
+      subst (λ (x : ℕ). x ≤ last-stamp) (sym (held c .word .ensures ∙ stamp-read t)) (b .pre .0 .stamps (w .i) (under c)),
       w .inv .3,
-      subst (Fits (b .args .p)) (sym (after .ensures ∙ w .inv .1 .kept (w .i + 1) (omega arith))) (b .pre .0 .fits (w .i + 1) (omega arith)),
+      subst (Fits (b .args .p)) (sym (read c .cut-at2 .ensures ∙ w .inv .1 .kept (w .i + 1) (omega arith) (omega (arith, few t, under c))))
+          (b .pre .0 .fits (w .i + 1) (omega (arith, under c))),
     )
 
-mul-masks : tie.Need-mul-masks Inv-loop μ-loop
-mul-masks c = omega (arith, c .before .before .before .before .before .before .before .before .before .before .before .before .pre .0 .tidy .few)
-
-element-write-masks : tie.Need-element-write-masks Inv-loop μ-loop
-element-write-masks c = omega (arith, c .before .before .before .before .before .before .before .before .before .before .before .before .pre .0 .tidy .few)
-
-mul-marks : tie.Need-mul-marks Inv-loop μ-loop
-mul-marks c = omega (arith, c .before .before .before .before .before .before .before .before .before .before .before .before .pre .0 .tidy .few)
-
-element-write-marks : tie.Need-element-write-marks Inv-loop μ-loop
-element-write-marks c = omega (arith, c .before .before .before .before .before .before .before .before .before .before .before .before .pre .0 .tidy .few)
+put-cut-requires : tie.Need-put-cut-requires Inv-loop μ-loop
+put-cut-requires c κs = let t = turn (c .before .before) in (t .loop .inv .1 .room, there t, omega (arith, few t))
 
 add-i : tie.Need-add-i Inv-loop μ-loop
 add-i c = search needs
@@ -90,44 +115,39 @@ loop-less c = search needs
 
 loop-again : tie.Need-loop-again Inv-loop μ-loop
 loop-again c =
-    let b = c .before .before .before .before .before .before .before .before .before .before .before .before in
+    let k = c .before .before .before in
+    let t = turn (k .before) in
+    let b = entry t in
     let a = b .args in
-    let r = row (a .masks .now) (a .marks .now) in
-    let w = c .before .before .before .before .before .before .before .loop in
-    let after = c .before .before .before .cut-at2 in (
-      omega (arith, c .before .before .before .before .before .before .loop-test .taken),
-      sweeping-more (a .p) (a .held .now) (a .acts .now) r (a .act) (a .t) (w .i) (row (w .masks) (w .marks)) (w .cut) (w .inv .1)
-          (omega (arith, c .before .before .before .before .before .before .loop-test .taken, b .pre .0 .tidy .few)) (w .inv .2) (w .inv .3),
-      new-set-next (a .p) (a .held .now) (a .acts .now) r (a .act) (a .t) (w .i) (w .cut) (after .result) (c .swept-cut .result) (w .inv .2)
-          (after .ensures ∙ w .inv .1 .kept (w .i + 1) (omega arith)) (c .swept-cut .ensures),
-      c .swept-cut .ensures .fits,
+    let w = t .loop in
+    let more : w .i < a .span .count = under (k .before) in (
+      omega arith,
+      sweeping-more (a .p) (a .rows .now) (a .span) (a .j) (a .action) (a .stamp) (w .i) (w .rows) (c .before .put-cut .last .0) (w .cut) (b .pre .0 .there)
+          (omega (arith, few t)) (w .inv .1) (w .inv .2) (w .inv .3) (c .before .put-cut .ensures),
+      new-set-next (a .p) (a .rows .now) (a .span) (a .j) (a .action) (a .stamp) (w .i) (w .rows) (w .cut) (read (k .before) .cut-at2 .result) (k .swept-cut .result)
+          (held (k .before) .word .result) (k .before .word2 .result) (w .inv .1) (omega (arith, few t)) (w .inv .2)
+          (read (k .before) .cut-at2 .ensures) (held (k .before) .word .ensures) (k .before .word2 .ensures) (k .swept-cut .ensures),
+      k .swept-cut .ensures .fits,
     )
 
-mul-masks-2 : tie.Need-mul-masks-2 Inv-loop μ-loop
-mul-masks-2 c = search needs
+put-cut-requires-2 : tie.Need-put-cut-requires-2 Inv-loop μ-loop
+put-cut-requires-2 c κs = let t = c .before .before in (t .loop .inv .1 .room, there t, few t)
 
-element-write-masks-2 : tie.Need-element-write-masks-2 Inv-loop μ-loop
-element-write-masks-2 c = search needs
-
-mul-marks-2 : tie.Need-mul-marks-2 Inv-loop μ-loop
-mul-marks-2 c = search needs
-
-element-write-marks-2 : tie.Need-element-write-marks-2 Inv-loop μ-loop
-element-write-marks-2 c = search needs
+same-length : tie.Need-same-length Inv-loop μ-loop
+same-length c = search needs
 
 returns : tie.Need-returns Inv-loop μ-loop
 returns c =
-    let b = c .before .before .before .before .before .before in
+    let t = last c in
+    let b = entry t in
     let a = b .args in
-    let r = row (a .masks .now) (a .marks .now) in
-    let w = c .before .loop in
-    let end : w .i ≡ a .count = omega arith in
-    row-swept (a .p) (a .held .now) (a .acts .now) r (a .act) (a .t) (a .count) (with-cut (row (w .masks) (w .marks)) (a .count) (w .cut)) (b .pre .0 .row-tidy)
-    (sweeping-more (a .p) (a .held .now) (a .acts .now) r (a .act) (a .t) (a .count) (row (w .masks) (w .marks)) (w .cut)
-    (subst (λ (i : ℕ). Sweeping (a .p) (a .held .now) (a .acts .now) r (a .act) (a .t) i (row (w .masks) (w .marks))) end (w .inv .1))
-    (omega (arith, b .pre .0 .tidy .few))
-    (subst (λ (i : ℕ). set-of (w .cut) ≡ new-set (a .p) (a .held .now) (a .acts .now) r (a .act) (a .t) i) end (w .inv .2))
-    (w .inv .3))
+    let w = t .loop in
+    let end : w .i ≡ a .span .count = omega arith in
+    rows-swept (a .p) (a .rows .now) (a .span) (a .j) (a .action) (a .stamp) (c .before .put-cut2 .last .0) (b .pre .0)
+    (sweeping-more (a .p) (a .rows .now) (a .span) (a .j) (a .action) (a .stamp) (a .span .count) (w .rows) (c .before .put-cut2 .last .0) (w .cut) (b .pre .0 .there) (few t)
+    (subst (λ (i : ℕ). Sweeping (a .p) (a .rows .now) (a .span) (a .j) (a .action) (a .stamp) i (w .rows)) end (w .inv .1))
+    (subst (λ (i : ℕ). set-of (w .cut) ≡ new-set (a .p) (a .rows .now) (a .span) (a .j) (a .action) (a .stamp) i) end (w .inv .2))
+    (w .inv .3) (c .before .put-cut2 .ensures))
 
 pub sweep-spec : {M : Type 1} → statement M
 sweep-spec =
@@ -140,19 +160,13 @@ sweep-spec =
     loop-holds
     add-cut-at
     cut-at-requires-2
-    mul-swept-cut
-    element-copy-out-swept-cut
-    element-copy-out-swept-cut-2
+    word-requires
+    word-requires-2
     swept-cut-requires
-    mul-masks
-    element-write-masks
-    mul-marks
-    element-write-marks
+    put-cut-requires
     add-i
     loop-less
     loop-again
-    mul-masks-2
-    element-write-masks-2
-    mul-marks-2
-    element-write-marks-2
+    put-cut-requires-2
+    same-length
     returns)

@@ -2,17 +2,25 @@
 use Prim.Native.Nat.{ℕ, _+_, _*_, _-_, _≤_, _<_}
 use native.Mathlib.Nat.{not-suc-le-zero}
 use native.Mathlib.Omega.{arith}
-use borrow.Author.Needs.{needs}
+use mathlib.Core.Path.{subst}
 use borrow.Author.Count.{below-more}
-use lib.ListN.{getD}
+use Rattle.rows.specs.Rows.{word}
+use borrow.Author.Needs.{needs}
 use Rattle.held.proofs.closed_count.Statement.{statement}
 use Rattle.held.proofs.closed_count.Tie as tie
 
 abbrev Inv-loop : tie.InvT-loop
-Inv-loop ub held count t wide i₀ i = (i ≤ count) × ((k : ℕ) → k < i → getD held k 0 + 2 * ub < t)
+Inv-loop ub rows span stamp wide count i₀ i = (i ≤ span .count) × ((k : ℕ) → k < i → word rows span 0 k + 2 * ub < stamp)
 
 abbrev μ-loop : tie.MeasureT-loop
-μ-loop ub held count t wide i₀ i = count - i
+μ-loop ub rows span stamp wide count i₀ i = span .count - i
+
+-- from a stamp that was read back to the turn of the loop and the entry
+abbrev turn : tie.After-word Inv-loop μ-loop → tie.At-loop Inv-loop μ-loop
+turn k = k .before .before
+
+abbrev entry : tie.After-word Inv-loop μ-loop → tie.Start Inv-loop μ-loop
+entry k = turn k .before
 
 mul-wide : tie.Need-mul-wide Inv-loop μ-loop
 mul-wide c = search needs
@@ -20,19 +28,16 @@ mul-wide c = search needs
 loop-holds : tie.Need-loop-holds Inv-loop μ-loop
 loop-holds c = (search needs, λ k h. absurd (not-suc-le-zero h))
 
-mul-if1 : tie.Need-mul-if1 Inv-loop μ-loop
-mul-if1 c = search needs
-
-element-copy-out-if1 : tie.Need-element-copy-out-if1 Inv-loop μ-loop
-element-copy-out-if1 c = search needs
+word-requires : tie.Need-word-requires Inv-loop μ-loop
+word-requires c κs = search needs
 
 add-if1 : tie.Need-add-if1 Inv-loop μ-loop
-add-if1 c = record { fits = omega (arith, c .before .before .before .pre .2 (c .before .before .loop .i) (omega arith)) }
+add-if1 c = record { fits = omega (arith, c .word .ensures, entry c .pre .2 (turn c .loop .i) (omega arith)) }
 
 returns : tie.Need-returns Inv-loop μ-loop
 returns c =
-    let w = c .before .before .before .loop in
-    record { within = w .inv .0; closed = w .inv .1; next = λ h. c .if1 .taken }
+    let w = turn (c .before) .loop in
+    record { within = w .inv .0; closed = w .inv .1; next = λ h. omega (arith, c .before .word .ensures, c .if1 .taken) }
 
 add-i : tie.Need-add-i Inv-loop μ-loop
 add-i c = search needs
@@ -42,9 +47,9 @@ loop-less c = search needs
 
 loop-again : tie.Need-loop-again Inv-loop μ-loop
 loop-again c =
-    let a = c .before .before .before .before .args in
-    let w = c .before .before .before .loop in
-    (omega arith, below-more (λ (k : ℕ). getD (a .held .now) k 0 + 2 * a .ub < a .t) (w .i) (w .inv .1) (c .if1 .left))
+    let a = entry (c .before) .args in
+    let w = turn (c .before) .loop in
+    (omega arith, below-more (λ (k : ℕ). word (a .rows .now) (a .span) 0 k + 2 * a .ub < a .stamp) (w .i) (w .inv .1) (omega (arith, c .before .word .ensures, c .if1 .left)))
 
 returns-2 : tie.Need-returns-2 Inv-loop μ-loop
 returns-2 c =
@@ -59,8 +64,7 @@ closed-count-spec =
     μ-loop
     mul-wide
     loop-holds
-    mul-if1
-    element-copy-out-if1
+    word-requires
     add-if1
     returns
     add-i

@@ -39,8 +39,8 @@ returns c =
     let a = c .before .args in
     let pre = c .before .pre in
     let low : ℕ = bitAnd (a .free) ((1 * 2 ^ a .n) % 2 ^ 64 - 1) in
-    subst (λ (m : ℕ). Arranged (a .n) (a .free) (a .still) (a .broken) (record { mask = low; marks = m * 2 + a .broken })) (sym (c .both .ensures .0))
-    (subst (λ (m : ℕ). Arranged (a .n) (a .free) (a .still) (a .broken) (record { mask = m; marks = bitOr (a .free - m) (a .still) * 2 + a .broken }))
+    subst (λ (m : ℕ). Arranged (a .n) (a .free) (a .still) (a .broken) (record { mask = low; armed = m * 2 + a .broken })) (sym (c .both .ensures .0))
+    (subst (λ (m : ℕ). Arranged (a .n) (a .free) (a .still) (a .broken) (record { mask = m; armed = bitOr (a .free - m) (a .still) * 2 + a .broken }))
     (sym (kept-is (a .free) (a .n) (pre .0)))
     (arranged-words (a .n) (a .free) (a .still) (a .broken) (pre .1) (pre .2) (pre .3)))
 

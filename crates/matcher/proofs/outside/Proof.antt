@@ -4,24 +4,27 @@ use borrow.Author.Needs.{needs}
 use Rattle.matcher.proofs.outside.Statement.{statement}
 use Rattle.matcher.proofs.outside.Tie as tie
 
+cast-if2 : tie.Need-cast-if2
+cast-if2 c = search needs
+
 shr-result : tie.Need-shr-result
 shr-result c = search needs
 
 returns : tie.Need-returns
 returns c =
     let a = c .before .before .args in
-    λ p q. output-outside p (a .allowed) (a .act) (a .out) q (c .before .if1 .taken)
+    λ p q. output-outside p (a .allowed) (a .action) (a .output) q (c .before .if1 .taken)
 
 returns-2 : tie.Need-returns-2
 returns-2 c =
     let b = c .before .before in
     let a = b .args in
-    λ p q. unnamed-outside p (a .allowed) (a .act) (a .out) q (c .before .if1 .taken) (b .fits .allowed .fits) (c .if2 .left)
+    λ p q. unnamed-outside p (a .allowed) (a .action) (a .output) q (c .before .if1 .taken) (b .fits .allowed .fits) (c .if2 .left)
 
 returns-3 : tie.Need-returns-3
 returns-3 c =
     let a = c .before .args in
-    λ p q. input-inside p (a .allowed) (a .act) (a .out) q (c .if1 .left)
+    λ p q. input-inside p (a .allowed) (a .action) (a .output) q (c .if1 .left)
 
 pub outside-spec : {M : Type 1} → statement M
-outside-spec = tie.close (tie.spec shr-result returns returns-2 returns-3)
+outside-spec = tie.close (tie.spec cast-if2 shr-result returns returns-2 returns-3)

@@ -11,6 +11,9 @@ use Rattle.matcher.proofs.Words.{shifted}
 use Rattle.matcher.proofs.stray.Statement.{statement}
 use Rattle.matcher.proofs.stray.Tie as tie
 
+abbrev start : tie.Else1 → tie.Start
+start c = c .before .before
+
 add-if1 : tie.Need-add-if1
 add-if1 c = search needs
 
@@ -27,15 +30,15 @@ returns : tie.Need-returns
 unfolding stray
 returns c =
     let a = c .before .before .args in
-    sym (ap (λ (b : Bool). b || leb (2 ^ suc (suc (a .n))) (a .cut .marks))
+    sym (ap (λ (b : Bool). b || leb (2 ^ suc (suc (a .n))) (a .cut .armed))
     (sym (shifted (a .n + 1) (suc (a .n)) (a .cut .mask) (omega arith)) ∙ lt-ltb 0 (a .cut .mask / 2 ^ (a .n + 1)) (c .if1 .taken)))
 
 returns-2 : tie.Need-returns-2
 unfolding stray
 returns-2 c =
-    let a = c .before .before .before .args in
-    shifted (a .n + 2) (suc (suc (a .n))) (a .cut .marks) (omega arith)
-    ∙ sym (ap (λ (b : Bool). b || leb (2 ^ suc (suc (a .n))) (a .cut .marks))
+    let a = start (c .before) .args in
+    shifted (a .n + 2) (suc (suc (a .n))) (a .cut .armed) (omega arith)
+    ∙ sym (ap (λ (b : Bool). b || leb (2 ^ suc (suc (a .n))) (a .cut .armed))
     (sym (shifted (a .n + 1) (suc (a .n)) (a .cut .mask) (omega arith)) ∙ le-ltb 0 (a .cut .mask / 2 ^ (a .n + 1)) (c .before .if1 .left)))
 
 pub stray-spec : {M : Type 1} → statement M

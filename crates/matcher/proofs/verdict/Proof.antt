@@ -12,7 +12,14 @@ use Rattle.matcher.proofs.Moving.{some-test}
 use Rattle.matcher.proofs.verdict.Statement.{statement}
 use Rattle.matcher.proofs.verdict.Tie as tie
 
--- the last digit of the marks is that of broken
+-- from where the mask is known to be 0 to the test of broken, and from there to the entry
+abbrev broken : tie.Else2 → tie.Else1
+broken c = c .before .before
+
+abbrev start : tie.Else1 → tie.Start
+start c = c .before .before
+
+-- the last digit of the armed word is that of broken
 even : (m : ℕ) → m % 2 ≡ 0 → false ≡ bit m 0
 even m e = sym (bit-zero m ∙ ap (λ (x : ℕ). eqb x 1) e)
 
@@ -32,28 +39,31 @@ or-there false = refl
 returns : tie.Need-returns
 returns c =
     let cut = c .before .before .args .cut in
-    λ p h. verdict-read p cut h false (not (eqb (cut .mask) 0) || not (eqb (cut .marks / 2) 0)) (even (cut .marks) (c .if1 .taken)) refl
+    λ p h. verdict-read p cut h false (not (eqb (cut .mask) 0) || not (eqb (cut .armed / 2) 0)) (even (cut .armed) (c .if1 .taken)) refl
 
 returns-2 : tie.Need-returns-2
 returns-2 c =
-    let cut = c .before .before .before .before .args .cut in
+    let b = c .before .before in
+    let cut = start b .args .cut in
     λ p h.
-    verdict-read p cut h true true (odd (cut .marks) (c .before .before .if1 .left))
-    (ap (λ (b : Bool). b || not (eqb (cut .marks / 2) 0)) (there (cut .mask) (c .if2 .taken)))
+    verdict-read p cut h true true (odd (cut .armed) (b .if1 .left))
+    (ap (λ (b : Bool). b || not (eqb (cut .armed / 2) 0)) (there (cut .mask) (c .if2 .taken)))
 
 returns-3 : tie.Need-returns-3
 returns-3 c =
-    let cut = c .before .before .before .before .before .before .args .cut in
+    let b = broken (c .before .before) in
+    let cut = start b .args .cut in
     λ p h.
-    verdict-read p cut h true true (odd (cut .marks) (c .before .before .before .before .if1 .left))
-    (sym (or-there (not (eqb (cut .mask) 0))) ∙ ap (λ (b : Bool). not (eqb (cut .mask) 0) || b) (there (cut .marks / 2) (c .if3 .taken)))
+    verdict-read p cut h true true (odd (cut .armed) (b .if1 .left))
+    (sym (or-there (not (eqb (cut .mask) 0))) ∙ ap (λ (b : Bool). not (eqb (cut .mask) 0) || b) (there (cut .armed / 2) (c .if3 .taken)))
 
 returns-4 : tie.Need-returns-4
 returns-4 c =
-    let cut = c .before .before .before .before .before .before .args .cut in
+    let b = broken (c .before .before) in
+    let cut = start b .args .cut in
     λ p h.
-    verdict-read p cut h true false (odd (cut .marks) (c .before .before .before .before .if1 .left))
-    (ap₂ (λ (a b : Bool). a || b) (not-there (cut .mask) (c .before .before .if2 .left)) (not-there (cut .marks / 2) (c .if3 .left)))
+    verdict-read p cut h true false (odd (cut .armed) (b .if1 .left))
+    (ap₂ (λ (a b : Bool). a || b) (not-there (cut .mask) (c .before .before .if2 .left)) (not-there (cut .armed / 2) (c .if3 .left)))
 
 pub verdict-spec : {M : Type 1} → statement M
 verdict-spec = tie.close (tie.spec returns returns-2 returns-3 returns-4)

@@ -1,4 +1,7 @@
 -- `session_record::unfit` meets its contract: at each `return` the tests that led there decide refusal 10.
+use Prim.Native.Nat.{ℕ}
+use mathlib.Core.List.{List}
+use native.Mathlib.Omega.{arith}
 use mathlib.Core.Path.{_≡_, refl, sym, ap, _∙_}
 use mathlib.Core.Bool.{Bool, true, false, not, _&&_, _||_, or-true, or-false}
 use borrow.Author.Tests.{lt-ltb, le-ltb, eq-eqb, ne-eqb}
@@ -8,7 +11,9 @@ use Rattle.meaning.specs.Limits.{last-stamp, most-open}
 use Rattle.meaning.specs.Numbers.{property-refusal}
 use Rattle.property.specs.Meant.{meant}
 use Rattle.session_record.specs.declared.Session.{Session}
-use Rattle.session_record.specs.Record.{count-of, latest-of, length-above}
+use Rattle.held.specs.Held.{stamps-fall}
+use Rattle.rows.specs.Rows.{Room}
+use Rattle.session_record.specs.Record.{rows-of, span-of, count-of, latest-of, length-above}
 use Rattle.session_record.proofs.Range.{misformed, crowded, fallen, held-blind, late, too-long, range-tests}
 use borrow.Author.Needs.{needs}
 use Rattle.session_record.proofs.unfit.Statement.{statement}
@@ -18,11 +23,23 @@ use Rattle.session_record.proofs.unfit.Tie as tie
 abbrev S : tie.Else1 → Session
 S e = e .before .before .before .args .s
 
+abbrev after-2 : tie.Then2 → tie.Else1
+after-2 t = t .before .before .before .before .before .before
+
 abbrev back-1 : tie.Else2 → tie.Else1
-back-1 e = e .before .before .before
+back-1 e = e .before .before .before .before .before .before
+
+abbrev whole : tie.After-falls → tie.Else2
+whole k = k .before .before .before
+
+abbrev lent : tie.Else3 → tie.After-falls
+lent e = e .before
 
 abbrev back-2 : tie.Else3 → tie.Else2
-back-2 e = e .before .before .before .before
+back-2 e = whole (lent e)
+
+abbrev back-3 : tie.Else4 → tie.Else3
+back-3 e = e .before .before
 
 -- what each says
 taken : (e : tie.Else1) → property-refusal (meant (S e .property)) ≡ 0
@@ -34,8 +51,17 @@ formed e = ap not (eq-eqb (property-refusal (meant (S e .property))) 0 (taken e)
 few : (e : tie.Else2) → crowded (S (back-1 e)) ≡ false
 few e = le-ltb most-open (count-of (S (back-1 e))) (e .if2 .left)
 
+-- the rows of the record
+rooms : (k : tie.After-rows-of) → Room (k .rows-of .result) (span-of (S (back-1 (k .before))))
+rooms k = k .rows-of .ensures .2 (span-of (S (back-1 (k .before)))) (k .before .if2 .left)
+
+fell : (k : tie.After-falls) → k .falls .result ≡ fallen (S (back-1 (whole k)))
+fell k =
+    let s = S (back-1 (whole k)) in
+    k .falls .ensures ∙ ap (λ (rows : List (List ℕ)). stamps-fall rows (span-of s) (latest-of s)) (k .before .before .rows-of .ensures .0)
+
 rising : (e : tie.Else3) → fallen (S (back-1 (back-2 e))) ≡ false
-rising e = sym (e .before .falls .ensures) ∙ e .if3 .left
+rising e = sym (fell (lent e)) ∙ e .if3 .left
 
 refused-requires : tie.Need-refused-requires
 refused-requires c κs = search needs
@@ -49,25 +75,28 @@ returns c =
 
 returns-2 : tie.Need-returns-2
 returns-2 c =
-    let s = c .before .before .before .before .before .before .args .s in
-    sym
-    (range-tests s false true (fallen s) (held-blind s) (late s) (too-long s)
-    (formed (c .before .before .before)) (lt-ltb most-open (count-of s) (c .if2 .taken)) refl refl refl refl)
+    let e = after-2 c in
+    sym (range-tests (S e) false true (fallen (S e)) (held-blind (S e)) (late (S e)) (too-long (S e)) (formed e) (lt-ltb most-open (count-of (S e)) (c .if2 .taken)) refl refl refl refl)
+
+rows-of-requires : tie.Need-rows-of-requires
+rows-of-requires c κs = search needs
+
+slice-aggregate-falls : tie.Need-slice-aggregate-falls
+slice-aggregate-falls c = search needs
 
 falls-requires : tie.Need-falls-requires
-falls-requires c κs = search needs
+falls-requires c κs = rooms (c .before)
 
 returns-3 : tie.Need-returns-3
 returns-3 c =
-    let e = c .before .before .before .before in
+    let k = c .before in
+    let e = whole k in
     let s = S (back-1 e) in
-    sym
-    (range-tests s false false true (held-blind s) (late s) (too-long s)
-    (formed (back-1 e)) (few e) (sym (c .before .falls .ensures) ∙ c .if3 .taken) refl refl refl)
+    sym (range-tests s false false true (held-blind s) (late s) (too-long s) (formed (back-1 e)) (few e) (sym (fell k) ∙ c .if3 .taken) refl refl refl)
 
 returns-4 : tie.Need-returns-4
 returns-4 c =
-    let e = c .before in
+    let e = c .before .before in
     let s = S (back-1 (back-2 e)) in
     sym
     (range-tests s false false false (held-blind s) true (too-long s)
@@ -76,32 +105,39 @@ returns-4 c =
 
 returns-5 : tie.Need-returns-5
 returns-5 c =
-    let e = c .before .before in
+    let t = c .before in
+    let e = back-3 (t .before) in
     let s = S (back-1 (back-2 e)) in
     sym
     (range-tests s false false false (ltb 0 (count-of s)) false false (formed (back-1 (back-2 e))) (few (back-2 e)) (rising e)
-    (ap (λ (b : Bool). b && ltb 0 (count-of s)) (c .if5 .taken))
-    (le-ltb last-stamp (latest-of s) (c .before .if4 .left))
-    (ap (λ (b : Bool). not b && length-above (s .row) (count-of s) (s .property .n)) (c .if5 .taken))
+    (ap (λ (b : Bool). b && ltb 0 (count-of s)) (t .if5 .taken))
+    (le-ltb last-stamp (latest-of s) (t .before .if4 .left))
+    (ap (λ (b : Bool). not b && length-above (rows-of s) (span-of s) (s .property .n)) (t .if5 .taken))
     ∙ ap (λ (b : Bool). b || false) (or-false (ltb 0 (count-of s)))
     ∙ or-false (ltb 0 (count-of s)))
 
+slice-aggregate-strays : tie.Need-slice-aggregate-strays
+slice-aggregate-strays c = search needs
+
 strays-requires : tie.Need-strays-requires
 strays-requires c κs =
-    let e = c .before .before .before .before .before .before .before in
-    (back-2 e .if2 .left, taken-bounds (S (back-1 (back-2 e)) .property) (taken (back-1 (back-2 e))) .most)
+    let k = lent (back-3 (c .before .before)) in
+    let e = back-1 (whole k) in
+    (rooms (k .before .before), omega (arith, k .before .before .rows-of .ensures .1), taken-bounds (S e .property) (taken e) .most)
 
 returns-6 : tie.Need-returns-6
 returns-6 c =
-    let e = c .before .before .before .before .before .before .before .before in
+    let t = c .before .before in
+    let e = back-3 (t .before) in
     let s = S (back-1 (back-2 e)) in
-    let above = length-above (s .row) (count-of s) (s .property .n) in
+    let above = length-above (rows-of s) (span-of s) (s .property .n) in
     c .strays .ensures
+    ∙ ap (λ (rows : List (List ℕ)). length-above rows (span-of s) (s .property .n)) (lent e .before .before .rows-of .ensures .0)
     ∙ sym
     (range-tests s false false false false false above (formed (back-1 (back-2 e))) (few (back-2 e)) (rising e)
-    (ap (λ (b : Bool). b && ltb 0 (count-of s)) (c .before .before .before .before .before .before .if5 .left))
-    (le-ltb last-stamp (latest-of s) (c .before .before .before .before .before .before .before .if4 .left))
-    (ap (λ (b : Bool). not b && above) (c .before .before .before .before .before .before .if5 .left)))
+    (ap (λ (b : Bool). b && ltb 0 (count-of s)) (t .if5 .left))
+    (le-ltb last-stamp (latest-of s) (t .before .if4 .left))
+    (ap (λ (b : Bool). not b && above) (t .if5 .left)))
 
 pub unfit-spec : {M : Type 1} → statement M
 unfit-spec =
@@ -110,9 +146,12 @@ unfit-spec =
     refused-requires
     returns
     returns-2
+    rows-of-requires
+    slice-aggregate-falls
     falls-requires
     returns-3
     returns-4
     returns-5
+    slice-aggregate-strays
     strays-requires
     returns-6)

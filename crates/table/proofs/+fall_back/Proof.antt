@@ -24,79 +24,50 @@ abbrev fall-back-below : ℕ → In 2 fall-back-kinds.ps
 fall-back-below t =
     and 2 fall-back-kinds.ps (falls 2 fall-back-kinds.ps _<_ μ-fall-back t) fall-back.Pre
 
-fall-back-goes-on-requires : (t : ℕ) → fall-back-lts.Need-goes-on-requires (
-  goes-on-reads.Asked,
-  goes-on-reads.Learnt,
-  fall-back-below t,
-  fall-back.Post,
-) (fall-back-at t) fall-back.Post
+-- what the calls ask and give
+abbrev claims : ℕ → fall-back-lts.Claims
+claims t = (goes-on-reads.Asked, goes-on-reads.Learnt, fall-back-below t, fall-back.Post)
+
+-- from where j does not go on to the entry
+abbrev start : (t : ℕ) → fall-back-lts.Else1 (claims t) (fall-back-at t) fall-back.Post
+    → fall-back-lts.Start (claims t) (fall-back-at t) fall-back.Post
+start t c = c .before .before
+
+fall-back-goes-on-requires : (t : ℕ) → fall-back-lts.Need-goes-on-requires (claims t) (fall-back-at t) fall-back.Post
 fall-back-goes-on-requires t c κs = search needs
 
-fall-back-add-result : (t : ℕ) → fall-back-lts.Need-add-result (
-  goes-on-reads.Asked,
-  goes-on-reads.Learnt,
-  fall-back-below t,
-  fall-back.Post,
-) (fall-back-at t) fall-back.Post
+fall-back-add-result : (t : ℕ) → fall-back-lts.Need-add-result (claims t) (fall-back-at t) fall-back.Post
 fall-back-add-result t c = search needs
 
-fall-back-returns : (t : ℕ) → fall-back-lts.Need-returns (
-  goes-on-reads.Asked,
-  goes-on-reads.Learnt,
-  fall-back-below t,
-  fall-back.Post,
-) (fall-back-at t) fall-back.Post
+fall-back-returns : (t : ℕ) → fall-back-lts.Need-returns (claims t) (fall-back-at t) fall-back.Post
 fall-back-returns t c =
     let a = c .before .before .args in
-    fall-back-here (action-at (a .output .now) (a .number .now)) (a .n) (a .k) (a .j) (action-of (a .out) (a .act))
+    fall-back-here (action-at (a .outputs .now) (a .numbers .now)) (a .n) (a .k) (a .j) (action-of (a .output) (a .action))
     (sym (c .before .goes-on .ensures) ∙ c .if1 .taken)
 
-fall-back-returns-2 : (t : ℕ) → fall-back-lts.Need-returns-2 (
-  goes-on-reads.Asked,
-  goes-on-reads.Learnt,
-  fall-back-below t,
-  fall-back.Post,
-) (fall-back-at t) fall-back.Post
+fall-back-returns-2 : (t : ℕ) → fall-back-lts.Need-returns-2 (claims t) (fall-back-at t) fall-back.Post
 fall-back-returns-2 t c =
-    let a = c .before .before .before .args in
-    fall-back-none (action-at (a .output .now) (a .number .now)) (a .n) (a .k) (a .j) (action-of (a .out) (a .act))
-    (sym (c .before .before .goes-on .ensures) ∙ c .before .if1 .left) (c .if2 .taken)
+    let b = c .before in
+    let a = start t b .args in
+    fall-back-none (action-at (a .outputs .now) (a .numbers .now)) (a .n) (a .k) (a .j) (action-of (a .output) (a .action))
+    (sym (b .before .goes-on .ensures) ∙ b .if1 .left) (c .if2 .taken)
 
-fall-back-sub-fall-back : (t : ℕ) → fall-back-lts.Need-sub-fall-back (
-  goes-on-reads.Asked,
-  goes-on-reads.Learnt,
-  fall-back-below t,
-  fall-back.Post,
-) (fall-back-at t) fall-back.Post
+fall-back-sub-fall-back : (t : ℕ) → fall-back-lts.Need-sub-fall-back (claims t) (fall-back-at t) fall-back.Post
 fall-back-sub-fall-back t c = search needs
 
-fall-back-fall-back-requires : (t : ℕ) → fall-back-lts.Need-fall-back-requires (
-  goes-on-reads.Asked,
-  goes-on-reads.Learnt,
-  fall-back-below t,
-  fall-back.Post,
-) (fall-back-at t) fall-back.Post
+fall-back-fall-back-requires : (t : ℕ) → fall-back-lts.Need-fall-back-requires (claims t) (fall-back-at t) fall-back.Post
 fall-back-fall-back-requires t c κs = search needs
 
-fall-back-returns-3 : (t : ℕ) → fall-back-lts.Need-returns-3 (
-  goes-on-reads.Asked,
-  goes-on-reads.Learnt,
-  fall-back-below t,
-  fall-back.Post,
-) (fall-back-at t) fall-back.Post
+fall-back-returns-3 : (t : ℕ) → fall-back-lts.Need-returns-3 (claims t) (fall-back-at t) fall-back.Post
 fall-back-returns-3 t c =
-    let a = c .before .before .before .before .args in
+    let b = c .before .before in
+    let a = start t b .args in
     c .fall-back .ensures
-    ∙ fall-back-down (action-at (a .output .now) (a .number .now)) (a .n) (a .k) (a .j) (action-of (a .out) (a .act))
-    (sym (c .before .before .before .goes-on .ensures) ∙ c .before .before .if1 .left) (c .before .if2 .left)
+    ∙ fall-back-down (action-at (a .outputs .now) (a .numbers .now)) (a .n) (a .k) (a .j) (action-of (a .output) (a .action))
+    (sym (b .before .goes-on .ensures) ∙ b .if1 .left) (c .before .if2 .left)
 
 pub +fall-back-spec : {M : Type 1} → statement M
-+fall-back-spec = close μ-fall-back λ t. fall-back-lts.spec (
-  goes-on-reads.Asked,
-  goes-on-reads.Learnt,
-  fall-back-below t,
-  fall-back.Post,
-)
++fall-back-spec = close μ-fall-back λ t. fall-back-lts.spec (claims t)
     (fall-back-at t)
     fall-back.Post
     (fall-back-goes-on-requires t)

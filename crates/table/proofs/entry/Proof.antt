@@ -1,14 +1,29 @@
 -- `table::entry` meets its contract: where the sequence does not go on, the entry is that of the longest shorter length.
+use Prim.Native.Nat.{ℕ}
 use mathlib.Core.Path.{sym, _∙_}
 use native.Mathlib.Omega.{arith}
 use lib.ListN.{getD}
 use Rattle.property.specs.Meant.{action-of}
-use Rattle.table.specs.Table.{action-at}
+use Rattle.table.specs.Table.{action-at, Shorter}
 use Rattle.table.proofs.Recursion.{fall-back-here}
 use Rattle.table.proofs.Falling.{entry-none, entry-shorter}
 use borrow.Author.Needs.{needs}
 use Rattle.table.proofs.entry.Statement.{statement}
 use Rattle.table.proofs.entry.Tie as tie
+
+-- from where the sequence does not go on to the entry, and the shorter length that `falls` has there
+abbrev start : tie.Else1 → tie.Start
+start c = c .before .before
+
+abbrev fall : tie.Else1 → ℕ
+fall c = getD (start c .args .falls .now) (start c .args .k) 0
+
+fall-shorter : (c : tie.Else2)
+    → Shorter (action-at (start (c .before) .args .outputs .now) (start (c .before) .args .numbers .now)) (start (c .before) .args .k) (fall (c .before))
+fall-shorter c = start (c .before) .pre .1 .0 (start (c .before) .args .k) (omega arith) (omega arith)
+
+abbrev looked-up : tie.After-result → tie.Else2
+looked-up c = c .before .before
 
 next-is-requires : tie.Need-next-is-requires
 next-is-requires c κs = search needs
@@ -22,43 +37,36 @@ cast-result c = search needs
 returns : tie.Need-returns
 returns c =
     let a = c .before .before .args in
-    fall-back-here (action-at (a .output .now) (a .number .now)) (a .n) (a .k) (a .k) (action-of (a .out) (a .act))
+    fall-back-here (action-at (a .outputs .now) (a .numbers .now)) (a .n) (a .k) (a .k) (action-of (a .output) (a .action))
     (sym (c .before .next-is .ensures) ∙ c .if1 .taken)
 
 returns-2 : tie.Need-returns-2
 returns-2 c =
-    let a = c .before .before .before .args in
-    entry-none (action-at (a .output .now) (a .number .now)) (a .n) (action-of (a .out) (a .act)) (a .k)
-    (sym (c .before .before .next-is .ensures) ∙ c .before .if1 .left) (c .if2 .taken)
+    let b = c .before in
+    let a = start b .args in
+    entry-none (action-at (a .outputs .now) (a .numbers .now)) (a .n) (action-of (a .output) (a .action)) (a .k)
+    (sym (b .before .next-is .ensures) ∙ b .if1 .left) (c .if2 .taken)
 
 element-copy-out-f : tie.Need-element-copy-out-f
 element-copy-out-f c = search needs
 
 cast-f : tie.Need-cast-f
-cast-f c =
-    let a = c .before .before .before .before .args in
-    let sh = c .before .before .before .before .pre .1 .0 (a .k) (omega arith) (omega arith) in
-    record { fits = omega (arith, sh .less) }
+cast-f c = record { fits = omega (arith, fall-shorter (c .before) .less) }
 
 add-result-2 : tie.Need-add-result-2
-add-result-2 c =
-    let a = c .before .before .before .before .args in
-    let sh = c .before .before .before .before .pre .1 .0 (a .k) (omega arith) (omega arith) in
-    record { fits = omega (arith, sh .less) }
+add-result-2 c = record { fits = omega (arith, fall-shorter (c .before) .less) }
 
 element-copy-out-result : tie.Need-element-copy-out-result
-element-copy-out-result c =
-    let a = c .before .before .before .before .args in
-    let sh = c .before .before .before .before .pre .1 .0 (a .k) (omega arith) (omega arith) in
-    omega (arith, sh .less)
+element-copy-out-result c = omega (arith, fall-shorter (c .before) .less)
 
 returns-3 : tie.Need-returns-3
 returns-3 c =
-    let a = c .before .before .before .before .before .args in
-    let sh = c .before .before .before .before .before .pre .1 .0 (a .k) (omega arith) (omega arith) in
-    c .before .before .before .before .before .pre .1 .1 (getD (a .falls .now) (a .k) 0) (sh .less)
-    ∙ entry-shorter (action-at (a .output .now) (a .number .now)) (a .n) (action-of (a .out) (a .act)) (a .k) (getD (a .falls .now) (a .k) 0)
-    (sym (c .before .before .before .before .next-is .ensures) ∙ c .before .before .before .if1 .left) (c .before .before .if2 .left) sh
+    let d = looked-up c in
+    let b = d .before in
+    let a = start b .args in
+    start b .pre .1 .1 (fall b) (fall-shorter d .less)
+    ∙ entry-shorter (action-at (a .outputs .now) (a .numbers .now)) (a .n) (action-of (a .output) (a .action)) (a .k) (fall b)
+    (sym (b .before .next-is .ensures) ∙ b .if1 .left) (d .if2 .left) (fall-shorter d)
 
 pub entry-spec : {M : Type 1} → statement M
 entry-spec =

@@ -7,6 +7,13 @@ use borrow.Author.Needs.{needs}
 use Rattle.table.proofs.next_is.Statement.{statement}
 use Rattle.table.proofs.next_is.Tie as tie
 
+-- from where the actions are compared to the test that there is one
+abbrev read : tie.After-same → tie.After-same-arg
+read c = c .before .before
+
+abbrev within : tie.After-same → tie.Then1
+within c = read c .before
+
 element-copy-out-same : tie.Need-element-copy-out-same
 element-copy-out-same c = search needs
 
@@ -18,14 +25,14 @@ same-requires c κs = search needs
 
 returns : tie.Need-returns
 returns c =
-    let a = c .before .before .before .before .args in
-    next-there (action-at (a .output .now) (a .number .now)) (a .n) (action-of (a .out) (a .act)) (a .k)
-    (c .before .before .before .if1 .taken) (c .same .result) (c .same .ensures)
+    let a = within c .before .args in
+    next-there (action-at (a .outputs .now) (a .numbers .now)) (a .n) (action-of (a .output) (a .action)) (a .k)
+    (within c .if1 .taken) (c .same .result) (c .same .ensures)
 
 returns-2 : tie.Need-returns-2
 returns-2 c =
     let a = c .before .args in
-    goes-on-past (action-at (a .output .now) (a .number .now)) (a .n) (a .k) (a .k) (action-of (a .out) (a .act)) (c .if1 .left)
+    goes-on-past (action-at (a .outputs .now) (a .numbers .now)) (a .n) (a .k) (a .k) (action-of (a .output) (a .action)) (c .if1 .left)
 
 pub next-is-spec : {M : Type 1} → statement M
 next-is-spec =

@@ -11,10 +11,18 @@ use Rattle.table.proofs.shorter.Statement.{statement}
 use Rattle.table.proofs.shorter.Tie as tie
 
 abbrev Inv-loop : tie.InvT-loop
-Inv-loop output number n falls₀ k₀ falls k = (1 ≤ k) × (length falls ≡ 33) × ((j : ℕ) → 0 < j → j ≤ k → Shorter (action-at output number) j (getD falls j 0))
+Inv-loop outputs numbers n falls₀ k₀ falls k =
+    (1 ≤ k) × (length falls ≡ 33) × ((j : ℕ) → 0 < j → j ≤ k → Shorter (action-at outputs numbers) j (getD falls j 0))
 
 abbrev μ-loop : tie.MeasureT-loop
-μ-loop output number n falls₀ k₀ falls k = n - k
+μ-loop outputs numbers n falls₀ k₀ falls k = n - k
+
+-- from where the shorter length is found to the turn
+abbrev read : tie.After-fall-back Inv-loop μ-loop → tie.After-fall-back-arg Inv-loop μ-loop
+read c = c .before .before
+
+abbrev turn : tie.After-fall-back Inv-loop μ-loop → tie.At-loop Inv-loop μ-loop
+turn c = read c .before .before
 
 loop-holds : tie.Need-loop-holds Inv-loop μ-loop
 loop-holds c = (
@@ -22,7 +30,7 @@ loop-holds c = (
   refl,
   λ j p q.
       let a = c .args in
-      let s = action-at (a .output .now) (a .number .now) in
+      let s = action-at (a .outputs .now) (a .numbers .now) in
       subst (λ (x : ℕ). Shorter s x (getD (replicate {A = ℕ} 33 0) x 0)) (let e : 1 ≡ j = omega arith in e) (shorter-one s (a .n)),
 )
 
@@ -40,9 +48,9 @@ fall-back-requires c κs = search needs
 
 cast-falls : tie.Need-cast-falls Inv-loop μ-loop
 cast-falls c =
-    let a = c .before .before .before .before .before .args in
-    let k = c .before .before .before .before .loop .k in
-    let s = action-at (a .output .now) (a .number .now) in
+    let a = turn c .before .args in
+    let k = turn c .loop .k in
+    let s = action-at (a .outputs .now) (a .numbers .now) in
     record { fits = omega (arith, c .fall-back .ensures, fall-back-le s (a .n) k (k - 1) (s k)) }
 
 add-falls : tie.Need-add-falls Inv-loop μ-loop
@@ -59,9 +67,9 @@ loop-less c = search needs
 
 loop-again : tie.Need-loop-again Inv-loop μ-loop
 loop-again c =
-    let a = c .before .before .before .before .before .args in
-    let s = action-at (a .output .now) (a .number .now) in
-    let w = c .before .before .before .before .loop in (
+    let a = turn c .before .args in
+    let s = action-at (a .outputs .now) (a .numbers .now) in
+    let w = turn c .loop in (
       search needs,
       length-set (w .falls) (w .k + 1) (c .fall-back .result) ∙ w .inv .1,
       shorter-more s (w .falls) (w .k) (c .fall-back .result) (omega (arith, w .inv .1)) (w .inv .2)

@@ -1,6 +1,6 @@
 -- `table::table_of` meets its contract. The loop: the rows of the first i places are right, and every row is right or still empty.
 use borrow.Author.Needs.{needs}
-use Prim.Native.Nat.{ℕ, _+_, _-_, _≤_}
+use Prim.Native.Nat.{ℕ, _+_, _-_, _≤_, _<_}
 use mathlib.Core.Path.{_≡_, sym, subst}
 use mathlib.Core.List.{List}
 use mathlib.Core.Logic.{⊎-elim}
@@ -12,10 +12,36 @@ use Rattle.table.proofs.table_of.Statement.{statement}
 use Rattle.table.proofs.table_of.Tie as tie
 
 abbrev Inv-loop : tie.InvT-loop
-Inv-loop output number n table₀ falls i₀ table i = (i ≤ n) × Making output number n i table
+Inv-loop outputs numbers n table₀ falls i₀ table i = (i ≤ n) × Making outputs numbers n i table
 
 abbrev μ-loop : tie.MeasureT-loop
-μ-loop output number n table₀ falls i₀ table i = n - i
+μ-loop outputs numbers n table₀ falls i₀ table i = n - i
+
+-- from each place to the turn, and to the entry
+abbrev start : tie.At-loop Inv-loop μ-loop → tie.Start Inv-loop μ-loop
+start c = c .before .before
+
+abbrev turn-of : tie.After-output Inv-loop μ-loop → tie.At-loop Inv-loop μ-loop
+turn-of c = c .before .before
+
+abbrev turn : tie.After-action Inv-loop μ-loop → tie.At-loop Inv-loop μ-loop
+turn c = turn-of (c .before)
+
+abbrev tested : tie.Then1 Inv-loop μ-loop → tie.After-row Inv-loop μ-loop
+tested c = c .before .before
+
+abbrev filling : tie.After-fill-row-arg Inv-loop μ-loop → tie.Then1 Inv-loop μ-loop
+filling c = c .before .before
+
+-- the action at place i is one that a property may name, and its row has room
+named : (c : tie.At-loop Inv-loop μ-loop) → c .loop .i < start c .args .n → getD (start c .args .numbers .now) (c .loop .i) 0 ≤ 63
+named c h = start c .pre .1 (c .loop .i) h
+
+at-le : (c : tie.After-row Inv-loop μ-loop) → c .row .result ≤ 4224
+at-le c =
+    let b = turn (c .before) in
+    let a = start b .args in
+    omega (arith, c .row .ensures, row-le (getD (a .outputs .now) (b .loop .i) false) (getD (a .numbers .now) (b .loop .i) 0))
 
 shorter-requires : tie.Need-shorter-requires Inv-loop μ-loop
 shorter-requires c κs = search needs
@@ -24,33 +50,30 @@ loop-holds : tie.Need-loop-holds Inv-loop μ-loop
 loop-holds c =
     let a = c .before .args in
     let pre = c .before .pre .0 in
-    (omega arith, making-none (a .output .now) (a .number .now) (a .n) (pre .0) (a .table .now) (pre .1) (pre .2))
+    (omega arith, making-none (a .outputs .now) (a .numbers .now) (a .n) (pre .0) (a .table .now) (pre .1) (pre .2))
 
-element-copy-out-out : tie.Need-element-copy-out-out Inv-loop μ-loop
-element-copy-out-out c = search needs
+element-copy-out-output : tie.Need-element-copy-out-output Inv-loop μ-loop
+element-copy-out-output c = search needs
 
-element-copy-out-act : tie.Need-element-copy-out-act Inv-loop μ-loop
-element-copy-out-act c = search needs
+element-copy-out-action : tie.Need-element-copy-out-action Inv-loop μ-loop
+element-copy-out-action c = search needs
+
+cast-row : tie.Need-cast-row Inv-loop μ-loop
+cast-row c = record { fits = omega (arith, named (turn c) (omega arith)) }
 
 row-requires : tie.Need-row-requires Inv-loop μ-loop
 row-requires c κs = search needs
 
 add-if1 : tie.Need-add-if1 Inv-loop μ-loop
-add-if1 c =
-    let a = c .before .before .before .before .before .before .args in
-    let i = c .before .before .before .before .loop .i in
-    record { fits = omega (arith, c .row .ensures, row-le (getD (a .output .now) i false) (getD (a .number .now) i 0)) }
+add-if1 c = record { fits = omega (arith, at-le c) }
 
 element-copy-out-if1 : tie.Need-element-copy-out-if1 Inv-loop μ-loop
-element-copy-out-if1 c =
-    let a = c .before .before .before .before .before .before .args in
-    let i = c .before .before .before .before .loop .i in
-    omega (arith, c .row .ensures, row-le (getD (a .output .now) i false) (getD (a .number .now) i 0))
+element-copy-out-if1 c = omega (arith, at-le c)
 
 fill-row-requires : tie.Need-fill-row-requires Inv-loop μ-loop
 fill-row-requires c κs =
-    let at-loop = c .before .before .before .before .before .before .before .before in
-    ((omega arith, at-loop .loop .inv .1 .long), at-loop .before .shorter .ensures)
+    let b = turn (tested (filling c) .before) in
+    ((omega arith, b .loop .inv .1 .long), b .before .shorter .ensures)
 
 add-i : tie.Need-add-i Inv-loop μ-loop
 add-i c = search needs
@@ -60,28 +83,28 @@ loop-less c = search needs
 
 loop-again : tie.Need-loop-again Inv-loop μ-loop
 loop-again c =
-    let a = c .before .before .before .before .before .before .before .before .args in
-    let i = c .before .before .before .before .before .before .loop .i in
-    let t₀ = c .before .before .before .before .before .before .loop .table in
-    let m = c .before .before .before .before .before .before .loop .inv .1 in (
+    let r = c .before .before in
+    let b = turn (r .before) in
+    let a = start b .args in
+    let w = b .loop in (
       search needs,
       ⊎-elim
-          (λ w.
-          subst (λ (t : List ℕ). Making (a .output .now) (a .number .now) (a .n) (i + 1) t) (sym (w .4))
-          (making-filled (a .output .now) (a .number .now) (a .n) (omega arith) i t₀ (w .3 .last .1 .1 .1 .1 .1 .1 .0) m
-          (c .before .before .before .before .before .before .before .before .pre .1 i (omega arith)) (w .3 .ensures)))
-          (λ w.
-          subst (λ (t : List ℕ). Making (a .output .now) (a .number .now) (a .n) (i + 1) t) (sym (w .1))
-          (making-left (a .output .now) (a .number .now) (a .n) (omega arith) i t₀ m (omega arith)
-          (subst (λ (x : ℕ). getD t₀ (x + i) 0 ≡ 0 → ⊥) (c .before .before .row .ensures) (w .0 .left))))
+          (λ d.
+          subst (λ (t : List ℕ). Making (a .outputs .now) (a .numbers .now) (a .n) (w .i + 1) t) (sym (d .4))
+          (making-filled (a .outputs .now) (a .numbers .now) (a .n) (omega arith) (w .i) (w .table) (d .3 .last .1 .1 .1 .1 .1 .1 .0) (w .inv .1)
+          (named b (omega arith)) (d .3 .ensures)))
+          (λ d.
+          subst (λ (t : List ℕ). Making (a .outputs .now) (a .numbers .now) (a .n) (w .i + 1) t) (sym (d .1))
+          (making-left (a .outputs .now) (a .numbers .now) (a .n) (omega arith) (w .i) (w .table) (w .inv .1) (omega arith)
+          (subst (λ (x : ℕ). getD (w .table) (x + w .i) 0 ≡ 0 → ⊥) (r .row .ensures) (d .0 .left))))
           (c .if1 .came),
     )
 
 returns : tie.Need-returns Inv-loop μ-loop
 returns c =
-    let a = c .before .before .before .args in
+    let a = start (c .before) .args in
     let w = c .before .loop in
-    made (a .output .now) (a .number .now) (a .n) (w .i) (w .table) (c .loop-test .left) (w .inv .1)
+    made (a .outputs .now) (a .numbers .now) (a .n) (w .i) (w .table) (c .loop-test .left) (w .inv .1)
 
 pub table-of-spec : {M : Type 1} → statement M
 table-of-spec =
@@ -91,8 +114,9 @@ table-of-spec =
     μ-loop
     shorter-requires
     loop-holds
-    element-copy-out-out
-    element-copy-out-act
+    element-copy-out-output
+    element-copy-out-action
+    cast-row
     row-requires
     add-if1
     element-copy-out-if1
