@@ -1,153 +1,168 @@
--- Calls on the arrays of a ready record: each leads to the arrays that the code leaves.
-use Prim.Native.Nat.{ℕ, _+_, _-_, _*_, _≤_, _<_}
-use mathlib.Core.Path.{_≡_, refl, sym, _∙_, ap, subst}
+-- Calls on memory that is ready: each leads to what the code leaves.
+use Prim.Native.Nat.{ℕ, _+_, _-_, _≤_, _<_}
+use mathlib.Core.Path.{_≡_, refl, sym, _∙_, ap, ap₂, subst}
 use mathlib.Core.Bool.{Bool, true, false, cond}
-use mathlib.Core.List.{List}
+use mathlib.Core.List.{List, []}
+use native.Mathlib.Omega.{arith}
 use native.Mathlib.Nat.{add-zero}
-use lib.ListN.{length, set, replicate}
+use lib.ListN.{length}
 use lib.Dec.{ltb}
 use Rattle.meaning.specs.Limits.{last-action, most-open}
 use Rattle.meaning.specs.Numbers.{given, first-of}
+use Rattle.meaning.specs.Words.{Line}
 use Rattle.meaning.specs.Node.{Verdict, verdict-number}
-use Rattle.meaning.specs.Calls.{Call, mark-at, stamp-refusal}
+use Rattle.meaning.specs.Calls.{Call, mark-at, ticked, marked, stamp-refusal, beyond}
 use Rattle.meaning.specs.Calls
 use Rattle.meaning.specs.Matcher.{Lengths, at-start}
-use Rattle.meaning.specs.Step.{Front, Cuts}
+use Rattle.meaning.specs.Step.{Held, Front, Cuts}
+use Rattle.property.specs.Meant.{meant}
 use Rattle.property.specs.declared.Property.{Property}
-use Rattle.matcher.specs.Sets.{cut-of}
+use Rattle.matcher.specs.Sets.{set-of, cut-of, Fits}
+use Rattle.matcher.proofs.Words.{set-back, short-fits, start-short}
+use Rattle.rows.specs.declared.Span.{Span}
+use Rattle.rows.specs.Rows.{none, Room}
+use Rattle.rows.proofs.Rows.{count-spanning, room-none}
+use Rattle.clock.specs.declared.Clock.{Clock}
+use Rattle.clock.specs.Time.{clock-of, stored-clock}
+use Rattle.held.specs.declared.Status.{Status}
 use Rattle.held.specs.Held.{Closes}
-use Rattle.cuts.specs.Steps.{line-of, front-after, front-fresh, front-none, front-says, verdict-by, refusal-by, told-by, says}
-use Rattle.cuts.specs.Arrays.{row, front-of, Stored, Usable, Holds}
-use Rattle.cuts.proofs.Lines.{stored, open-at-output, open-at-input}
-use Rattle.session_record.specs.declared.Session.{Session}
+use Rattle.cuts.specs.Steps.{line-of, front-after, front-fresh, front-none, front-says, verdict-by, refusal-by, taken-by, told-by, says}
+use Rattle.cuts.specs.Fronts.{with-cut, held-at, front-of, Usable, Holds}
+use Rattle.cuts.proofs.Lines.{open-at-output, open-at-input, holds-one}
 use Rattle.session_record.specs.declared.Told.{Told}
-use Rattle.session_record.specs.Record.{count-of, latest-of, blind-of, cuts-of}
+use Rattle.session_record.specs.declared.Answer.{Answer}
 use Rattle.session_record.specs.Step.{answer-of}
-use Rattle.session_record.specs.Lent.{in-arrays, Ready, Advanced, LineTaken}
-use Rattle.session_record.proofs.Ready.{ready-ranged, ready-holds, ready-stored, call-refused, call-taken, zeros-stored, begun-holds}
-use Rattle.answers.proofs.Lines.{Comes, line-skipped, line-first, line-next, line-crowded}
+use Rattle.session_record.specs.Lent.{Memory, memory, held-in, Ready, Advanced, LineTaken}
+use Rattle.session_record.proofs.Fit.{Fit}
+use Rattle.session_record.proofs.Ready.{blind-ready, open-ready, call-refused, call-taken, taken-fits}
+use Rattle.answers.proofs.Lines.{Comes, line-limit, line-skipped, line-first, line-next, line-crowded}
 
--- The call leads to these arrays and what is given back beside them.
-abbrev pub Leads : Session → Call → List ℕ → List ℕ → List ℕ → List ℕ → Told → Type 0
-Leads s k held acts masks marks r = Advanced s k (r .answer) (in-arrays (s .property) held acts masks marks (r .status))
+-- The call leads to these rows and what is given back beside them.
+abbrev pub Leads : Memory → Call → List (List ℕ) → Told → Type 0
+Leads m k rows r = Advanced m k (r .answer) (memory (m .property) rows (r .status))
 
-module _ (s : Session) (ready : Ready s) where
+module _ (m : Memory) (ready : Ready m) where
   abbrev p : Property
-  p = s .property
+  p = m .property
 
   abbrev c : Cuts Lengths
-  c = cuts-of s
+  c = held-in m
 
   abbrev own : Front Lengths
-  own = front-of (s .shared .held) (s .shared .acts) (count-of s) (s .row)
+  own = front-of (m .rows) (m .status .span) 0
 
-  front-if : (b : Bool) → blind-of s ≡ b → c .front ≡ cond b (front-none p) own
+  front-if : (b : Bool) → m .status .clock .blind ≡ b → c .front ≡ cond b (front-none p) own
   front-if b e = ap (λ (x : Bool). cond x (front-none p) own) e
 
-  -- What the arrays hold: while a run is open its front, while blind nothing.
-  pub open-usable : blind-of s ≡ false → Usable p (s .shared .held) (s .shared .acts) (count-of s) (s .row)
-  open-usable e = ready-holds s ready .usable
-
-  blind-stored : blind-of s ≡ true → Stored (front-none p) (s .shared .held) (s .shared .acts) 0 (s .row)
-  blind-stored e =
-      subst (λ (n : ℕ). Stored (front-none p) (s .shared .held) (s .shared .acts) n (s .row)) (ready-ranged s ready .none-blind e)
-      (subst (λ (f : Front Lengths). Stored f (s .shared .held) (s .shared .acts) (count-of s) (s .row)) (front-if true e) (ready-stored s ready))
-
   -- A call refused.
-  pub refused-leads : (k : Call) (n : ℕ) → refusal-by p c k ≡ n → (n ≡ 0 → ⊥) → (r : Told) → r ≡ record { answer = answer-of (Calls.refused n); status = s .shared .status }
-      → Leads s k (s .shared .held) (s .shared .acts) (s .row .masks) (s .row .marks) r
-  refused-leads k n e h r q =
-      subst (Leads s k (s .shared .held) (s .shared .acts) (s .row .masks) (s .row .marks)) (sym q) (call-refused s ready k n e h)
+  pub refused-leads : (k : Call) (n : ℕ) → refusal-by p c k ≡ n → (n ≡ 0 → ⊥) → (r : Told) → r ≡ record { answer = answer-of (Calls.refused n); status = m .status }
+      → Leads m k (m .rows) r
+  refused-leads k n e h r q = subst (Leads m k (m .rows)) (sym q) (call-refused m ready k n e h)
 
-  module _ (out : Bool) (act t n : ℕ) (number : n ≡ first-of (given 3 (ltb last-action act)) (stamp-refusal (latest-of s) t)) (none : n ≡ 0) where
+  -- A call after which no run is open: the rows are as they were.
+  blind-leads : (k : Call) (clock : Calls.Clock) → clock .is-blind ≡ true → Comes p c k (record { clock = clock; front = front-none p })
+      → (a : Answer) → a ≡ answer-of (told-by p c k) → (r : Told) → r ≡ record { answer = a; status = record { span = none; clock = stored-clock clock } }
+      → Leads m k (m .rows) r
+  blind-leads k clock b w a told r q = subst (Leads m k (m .rows)) (sym q) (call-taken m ready k a after refl (w .none) (w .taken ∙ held) told is-ready)
+    where
+      after : Memory
+      after = memory p (m .rows) (record { span = none; clock = stored-clock clock })
+
+      held : record { clock = clock; front = front-none p } ≡ held-in (memory p (m .rows) (record { span = none; clock = stored-clock clock }))
+      held = ap (λ (x : Bool). record { clock = clock; front = cond x (front-none p) (front-of (m .rows) none 0) }) (sym b)
+
+      is-ready : Ready (memory p (m .rows) (record { span = none; clock = stored-clock clock }))
+      is-ready =
+          blind-ready _ (ready .ranged .formed) (room-none (m .rows) (m .status .span) (ready .room)) (ready .there) (count-spanning 0) b
+          (subst (Fit p) (w .taken) (taken-fits m ready k (w .none)) .limit)
+
+  module _ (output : Bool) (action stamp n : ℕ) (number : n ≡ first-of (given 3 (ltb last-action action)) (stamp-refusal (c .clock) stamp)) (zero : n ≡ 0) where
+    abbrev l : Line
+    l = line-of output action stamp
+
     abbrev k : Call
-    k = Call.line (line-of out act t)
+    k = Call.line l
 
-    comes-told : (after : Cuts Lengths) → Comes p c k after
-        → answer-of (says p (verdict-by p after) (length (after .front .held))) ≡ answer-of (told-by p c k)
+    comes-told : (after : Cuts Lengths) → Comes p c k after → answer-of (says p (verdict-by p after) (length (after .front .held))) ≡ answer-of (told-by p c k)
     comes-told after w = ap (λ (x : Cuts Lengths). answer-of (says p (verdict-by p x) (length (x .front .held)))) (sym (w .taken))
 
     -- a line skipped
-    pub skipped-leads : blind-of s ≡ true → t ≤ latest-of s + 2 * p .ub → (r : Told)
-        → r ≡ record { answer = record { refusal = 0; verdict = 3; open_count = 0 }; status = record { count = 0; latest = t; blind = true } }
-        → Leads s k (s .shared .held) (s .shared .acts) (s .row .masks) (s .row .marks) r
-    skipped-leads e h r q =
-        let after : Cuts Lengths = record { is-blind = true; front = front-none p; latest = t } in
-        let w = line-skipped p c out act t n number none e h in
-        subst (Leads s k (s .shared .held) (s .shared .acts) (s .row .masks) (s .row .marks)) (sym q)
-        (call-taken s ready k (record { refusal = 0; verdict = 3; open_count = 0 }) (s .shared .held) (s .shared .acts) (s .row .masks) (s .row .marks)
-        (record { count = 0; latest = t; blind = true }) after (w .none) (w .taken) (comes-told after w) (blind-stored e) refl refl)
+    pub skipped-leads : c .clock .is-blind ≡ true → beyond (meant p) (c .clock) stamp ≡ false → (clock : Clock) → clock ≡ stored-clock (ticked (c .clock) l true) → (r : Told)
+        → r ≡ record { answer = record { refusal = 0; verdict = 3; open_count = 0 }; status = record { span = none; clock = clock } } → Leads m k (m .rows) r
+    skipped-leads e far clock t r q =
+        let w = line-skipped p c output action stamp n number zero e far in
+        blind-leads k (ticked (c .clock) l true) refl w _ (comes-told _ w) r
+        (q ∙ ap (λ (x : Clock). record { answer = record { refusal = 0; verdict = 3; open_count = 0 }; status = record { span = none; clock = x } }) t)
 
     -- a line of a run, taken
-    run-leads : (f : Front Lengths) → Comes p c k (record { is-blind = false; front = f; latest = t }) → (held acts masks marks : List ℕ) (r : Told)
-        → LineTaken p f t held acts masks marks r → Leads s k held acts masks marks r
-    run-leads f w held acts masks marks r y =
-        let after : Cuts Lengths = record { is-blind = false; front = f; latest = t } in
-        call-taken s ready k (r .answer) held acts masks marks (r .status) after (w .none) (w .taken) (y .answered ∙ comes-told after w)
-        (stored p f held acts (r .status .count) (row masks marks) (y .holds)) (y .stamped) (y .seen)
+    run-leads : (f : Front Lengths) → Comes p c k (record { clock = ticked (c .clock) l false; front = f }) → (clock : Clock) → clock ≡ stored-clock (ticked (c .clock) l false)
+        → (rows : List (List ℕ)) (r : Told) → LineTaken p f clock rows r → Leads m k rows r
+    run-leads f w clock t rows r y =
+        call-taken m ready k (r .answer) (memory p rows (r .status)) refl (w .none) (w .taken ∙ held) (y .answered ∙ comes-told _ w)
+        (open-ready (memory p rows (r .status)) (y .holds .usable) (ap (λ (x : Clock). x .blind) stamped) (subst (Fit p) (w .taken ∙ held) (taken-fits m ready k (w .none))))
+      where
+        stamped : r .status .clock ≡ stored-clock (ticked (c .clock) l false)
+        stamped = y .clocked ∙ t
 
-    -- the first of a run: the arrays then hold an empty run
-    pub begun-usable : blind-of s ≡ true → (masks marks : List ℕ) → masks ≡ set (s .row .masks) 0 (cut-of at-start .mask)
-        → marks ≡ set (s .row .marks) 0 (cut-of at-start .marks) → Holds p (front-fresh p) (s .shared .held) (s .shared .acts) 0 (row masks marks)
-    begun-usable e masks marks m q =
-        subst (λ (x : List ℕ). Holds p (front-fresh p) (s .shared .held) (s .shared .acts) 0 (row x marks)) (sym m)
-        (subst (λ (x : List ℕ). Holds p (front-fresh p) (s .shared .held) (s .shared .acts) 0 (row (set (s .row .masks) 0 (cut-of at-start .mask)) x)) (sym q)
-        (begun-holds p (ready-ranged s ready .formed) (s .shared .held) (s .shared .acts) (s .row .masks) (s .row .marks) (blind-stored e)))
+        held : record { clock = ticked (c .clock) l false; front = f } ≡ held-in (memory p rows (r .status))
+        held = λ i. record { clock = clock-of (sym stamped i); front = cond (sym stamped i .blind) (front-none p) (sym (y .holds .front) i) }
 
-    pub begun-leads : blind-of s ≡ true → latest-of s + 2 * p .ub < t → (g : Front Lengths) → g ≡ front-fresh p → (held acts masks marks : List ℕ) (r : Told)
-        → LineTaken p (front-after p g (line-of out act t)) t held acts masks marks r → Leads s k held acts masks marks r
-    begun-leads e h g q held acts masks marks r y =
-        run-leads (front-after p (front-fresh p) (line-of out act t)) (line-first p c out act t n number none e h) held acts masks marks r
-        (subst (λ (x : Front Lengths). LineTaken p (front-after p x (line-of out act t)) t held acts masks marks r) q y)
+    -- the first of a run: the rows then hold an empty run
+    pub begun-holds : (rows : List (List ℕ)) → rows ≡ with-cut (m .rows) none 0 0 (cut-of at-start) → Holds p (front-fresh p) rows none 0
+    begun-holds rows e =
+        subst (λ (x : List (List ℕ)). Holds p (front-fresh p) x none 0) (sym e)
+        (subst (λ (x : Lengths). Holds p (record { before = x; held = [] }) (with-cut (m .rows) none 0 0 (cut-of at-start)) none 0)
+        (set-back p (ready .ranged .formed) at-start (start-short (meant p)))
+        (holds-one p (m .rows) none 0 (cut-of at-start) (ready .ranged .formed) (room-none (m .rows) (m .status .span) (ready .room)) (ready .there) (count-spanning 0)
+        (short-fits p (ready .ranged .formed) at-start (start-short (meant p)))))
+
+    pub begun-leads : c .clock .is-blind ≡ true → beyond (meant p) (c .clock) stamp ≡ true → (clock : Clock) → clock ≡ stored-clock (ticked (c .clock) l false)
+        → (g : Front Lengths) → g ≡ front-fresh p → (rows : List (List ℕ)) (r : Told) → LineTaken p (front-after p g l) clock rows r → Leads m k rows r
+    begun-leads e far clock t g q rows r y =
+        run-leads (front-after p (front-fresh p) l) (line-first p c output action stamp n number zero e far) clock t rows r
+        (subst (λ (x : Front Lengths). LineTaken p (front-after p x l) clock rows r) q y)
 
     -- one more line of the run, or no room for it
-    module _ (e : blind-of s ≡ false) (d : ℕ) (closes : Closes (p .ub) (s .shared .held) (count-of s) t d) where
-      open-is : count-of s - d + cond out 0 1 ≡ length (front-after p (c .front) (line-of out act t) .held)
-      open-is = by-direction out refl ∙ ap (λ (f : Front Lengths). length (front-after p f (line-of out act t) .held)) (sym (front-if false e))
+    module _ (e : c .clock .is-blind ≡ false) (d : ℕ) (closes : Closes (p .ub) (m .rows) (m .status .span) stamp d) where
+      open-is : m .status .span .count - d + cond output 0 1 ≡ length (front-after p (c .front) l .held)
+      open-is = by-direction output refl ∙ ap (λ (f : Front Lengths). length (front-after p f l .held)) (sym (front-if false e))
         where
-          by-direction : (b : Bool) → out ≡ b → count-of s - d + cond out 0 1 ≡ length (front-after p own (line-of out act t) .held)
+          by-direction : (b : Bool) → output ≡ b → m .status .span .count - d + cond output 0 1 ≡ length (front-after p own l .held)
           by-direction true q =
-              ap (λ (b : Bool). count-of s - d + cond b 0 1) q ∙ add-zero (count-of s - d)
-              ∙ open-at-output p (s .shared .held) (s .shared .acts) (count-of s) act t d (s .row) closes out q
+              ap (λ (b : Bool). m .status .span .count - d + cond b 0 1) q ∙ add-zero (m .status .span .count - d)
+              ∙ open-at-output p (m .rows) (m .status .span) 0 action stamp d closes output q
           by-direction false q =
-              ap (λ (b : Bool). count-of s - d + cond b 0 1) q
-              ∙ open-at-input p (s .shared .held) (s .shared .acts) (count-of s) act t d (s .row) closes out q
+              ap (λ (b : Bool). m .status .span .count - d + cond b 0 1) q ∙ open-at-input p (m .rows) (m .status .span) 0 action stamp d closes output q
 
-      pub crowded-is : most-open < count-of s - d + cond out 0 1 → refusal-by p c k ≡ 6
-      crowded-is h = line-crowded p c out act t n number none e (subst (λ (m : ℕ). most-open < m) open-is h)
+      pub crowded-is : most-open < m .status .span .count - d + cond output 0 1 → refusal-by p c k ≡ 6
+      crowded-is h = line-crowded p c output action stamp n number zero e (subst (λ (x : ℕ). most-open < x) open-is h)
 
-      pub next-leads : count-of s - d + cond out 0 1 ≤ most-open → (held acts masks marks : List ℕ) (r : Told)
-          → LineTaken p (front-after p own (line-of out act t)) t held acts masks marks r → Leads s k held acts masks marks r
-      next-leads h held acts masks marks r y =
-          run-leads (front-after p (c .front) (line-of out act t)) (line-next p c out act t n number none e (subst (λ (m : ℕ). m ≤ most-open) open-is h))
-          held acts masks marks r
-          (subst (λ (x : Front Lengths). LineTaken p (front-after p x (line-of out act t)) t held acts masks marks r) (sym (front-if false e)) y)
+      pub next-leads : m .status .span .count - d + cond output 0 1 ≤ most-open → (clock : Clock) → clock ≡ stored-clock (ticked (c .clock) l false)
+          → (rows : List (List ℕ)) (r : Told) → LineTaken p (front-after p own l) clock rows r → Leads m k rows r
+      next-leads h clock t rows r y =
+          run-leads (front-after p (c .front) l) (line-next p c output action stamp n number zero e (subst (λ (x : ℕ). x ≤ most-open) open-is h)) clock t rows r
+          (subst (λ (x : Front Lengths). LineTaken p (front-after p x l) clock rows r) (sym (front-if false e)) y)
 
   -- "It closes the run, its answer gives the closed run's verdict (3 if already blind), and the session is blind."
-  module _ (lost g n : ℕ) (number : n ≡ first-of (given 3 (ltb last-action lost)) (stamp-refusal (latest-of s) g)) (none : n ≡ 0) where
-    abbrev m : Call
-    m = mark-at lost g
+  module _ (lost stamp n : ℕ) (number : n ≡ first-of (given 3 (ltb last-action lost)) (stamp-refusal (c .clock) stamp)) (zero : n ≡ 0)
+      (clock : Clock) (t : clock ≡ stored-clock (marked (c .clock) (record { lost = lost; stamp = stamp }))) where
+    abbrev g : Call
+    g = mark-at lost stamp
 
-    mark-leads : (v : ℕ) → v ≡ verdict-number (verdict-by p c) → (held acts masks marks : List ℕ) → Stored (front-none p) held acts 0 (row masks marks) → (r : Told)
-        → r ≡ record { answer = record { refusal = 0; verdict = v; open_count = 0 }; status = record { count = 0; latest = g; blind = true } }
-        → Leads s m held acts masks marks r
-    mark-leads v e held acts masks marks st r q =
-        subst (Leads s m held acts masks marks) (sym q)
-        (call-taken s ready m (record { refusal = 0; verdict = v; open_count = 0 }) held acts masks marks (record { count = 0; latest = g; blind = true })
-        (record { is-blind = true; front = front-none p; latest = g }) (sym number ∙ none) refl
-        (ap (λ (x : ℕ). record { refusal = 0; verdict = x; open_count = 0 }) e) st refl refl)
+    mark-leads : (v : ℕ) → v ≡ verdict-number (verdict-by p c) → (r : Told)
+        → r ≡ record { answer = record { refusal = 0; verdict = v; open_count = 0 }; status = record { span = none; clock = clock } } → Leads m g (m .rows) r
+    mark-leads v e r q =
+        blind-leads g (marked (c .clock) (record { lost = lost; stamp = stamp })) refl (record { none = sym number ∙ zero; taken = refl }) _
+        (ap (λ (x : ℕ). record { refusal = 0; verdict = x; open_count = 0 }) e) r
+        (q ∙ ap (λ (x : Clock). record { answer = record { refusal = 0; verdict = v; open_count = 0 }; status = record { span = none; clock = x } }) t)
 
-    verdict-if : (b : Bool) → blind-of s ≡ b → cond b Verdict.blind (front-says p (cond b (front-none p) own)) ≡ verdict-by p c
+    verdict-if : (b : Bool) → c .clock .is-blind ≡ b → cond b Verdict.blind (front-says p (cond b (front-none p) own)) ≡ verdict-by p c
     verdict-if b e = ap (λ (x : Bool). cond x Verdict.blind (front-says p (cond x (front-none p) own))) (sym e)
 
-    pub marked-blind : blind-of s ≡ true → (r : Told)
-        → r ≡ record { answer = record { refusal = 0; verdict = 3; open_count = 0 }; status = record { count = 0; latest = g; blind = true } }
-        → Leads s m (s .shared .held) (s .shared .acts) (s .row .masks) (s .row .marks) r
-    marked-blind e r q =
-        mark-leads 3 (ap verdict-number (verdict-if true e)) (s .shared .held) (s .shared .acts) (s .row .masks) (s .row .marks) (blind-stored e) r q
+    pub marked-blind : c .clock .is-blind ≡ true → (r : Told)
+        → r ≡ record { answer = record { refusal = 0; verdict = 3; open_count = 0 }; status = record { span = none; clock = clock } } → Leads m g (m .rows) r
+    marked-blind e r q = mark-leads 3 (ap verdict-number (verdict-if true e)) r q
 
-    pub marked-open : blind-of s ≡ false → (v : ℕ) → v ≡ verdict-number (front-says p own) → (r : Told)
-        → r ≡ record { answer = record { refusal = 0; verdict = v; open_count = 0 }; status = record { count = 0; latest = g; blind = true } }
-        → Leads s m (replicate 64 0) (replicate 64 0) (replicate 65 0) (replicate 65 0) r
-    marked-open e v h r q =
-        mark-leads v (h ∙ ap verdict-number (verdict-if false e)) (replicate 64 0) (replicate 64 0) (replicate 65 0) (replicate 65 0) (zeros-stored p) r q
+    pub marked-open : c .clock .is-blind ≡ false → (v : ℕ) → v ≡ verdict-number (front-says p own) → (r : Told)
+        → r ≡ record { answer = record { refusal = 0; verdict = v; open_count = 0 }; status = record { span = none; clock = clock } } → Leads m g (m .rows) r
+    marked-open e v h r q = mark-leads v (h ∙ ap verdict-number (verdict-if false e)) r q

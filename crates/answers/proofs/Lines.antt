@@ -1,17 +1,18 @@
--- What a line and a gap mark come to over cuts: refused, skipped, the first line of a run, one more line of the run.
-use Prim.Native.Nat.{ℕ, _+_, _*_, _≤_, _<_}
+-- What a line comes to over cuts: refused, skipped, the first line of a run, one more line of the run.
+use Prim.Native.Nat.{ℕ, _≤_, _<_}
 use mathlib.Core.Path.{_≡_, refl, sym, _∙_, ap}
-use mathlib.Core.Bool.{Bool, true, false, cond, not, _&&_}
+use mathlib.Core.Bool.{Bool, true, false, not, _&&_}
 use borrow.Author.Tests.{lt-ltb, le-ltb, ltb-false}
 use lib.ListN.{length}
 use lib.Dec.{ltb}
 use Rattle.meaning.specs.Limits.{last-action, last-stamp, most-open}
 use Rattle.meaning.specs.Words.{Line}
 use Rattle.meaning.specs.Numbers.{given, first-of}
-use Rattle.meaning.specs.Calls.{Call, stamp-refusal, beyond}
+use Rattle.meaning.specs.Calls.{Call, ticked, stamp-refusal, beyond}
 use Rattle.meaning.specs.Matcher.{Lengths}
 use Rattle.meaning.specs.Step.{Cuts}
 use Rattle.meaning.proofs.Refusals.{first-of-given, first-of-first, none-first}
+use Rattle.meaning.proofs.Clocks.{by-time-is}
 use Rattle.property.specs.Meant.{meant}
 use Rattle.property.specs.declared.Property.{Property}
 use Rattle.property.proofs.Sequence.{above-of}
@@ -22,16 +23,17 @@ pub record Comes (p : Property) (c : Cuts Lengths) (k : Call) (after : Cuts Leng
   pub none : refusal-by p c k ≡ 0
   pub taken : taken-by p c k ≡ after
 
-module _ (p : Property) (c : Cuts Lengths) (out : Bool) (act t n : ℕ) (number : n ≡ first-of (given 3 (ltb last-action act)) (stamp-refusal (c .latest) t)) where
+module _ (p : Property) (c : Cuts Lengths) (output : Bool) (action stamp n : ℕ)
+    (number : n ≡ first-of (given 3 (ltb last-action action)) (stamp-refusal (c .clock) stamp)) where
   abbrev l : Line
-  l = line-of out act t
+  l = line-of output action stamp
 
   -- refusals 3, 4 and 5 of a line, then 6
-  line-number : refusal-by p c (Call.line l) ≡ first-of n (given 6 (not (c .is-blind) && ltb most-open (length (taken-by p c (Call.line l) .front .held))))
+  line-number : refusal-by p c (Call.line l) ≡ first-of n (given 6 (not (c .clock .is-blind) && ltb most-open (length (taken-by p c (Call.line l) .front .held))))
   line-number =
-      let last : ℕ = given 6 (not (c .is-blind) && ltb most-open (length (taken-by p c (Call.line l) .front .held))) in
-      ap (λ (b : Bool). first-of (given 3 b) (first-of (stamp-refusal (c .latest) t) last)) (above-of out act)
-      ∙ first-of-first (given 3 (ltb last-action act)) (stamp-refusal (c .latest) t) last
+      let last : ℕ = given 6 (not (c .clock .is-blind) && ltb most-open (length (taken-by p c (Call.line l) .front .held))) in
+      ap (λ (b : Bool). first-of (given 3 b) (first-of (stamp-refusal (c .clock) stamp) last)) (above-of output action)
+      ∙ first-of-first (given 3 (ltb last-action action)) (stamp-refusal (c .clock) stamp) last
       ∙ ap (λ (m : ℕ). first-of m last) (sym number)
 
   pub line-refused : (n ≡ 0 → ⊥) → refusal-by p c (Call.line l) ≡ n
@@ -39,45 +41,35 @@ module _ (p : Property) (c : Cuts Lengths) (out : Bool) (act t n : ℕ) (number 
 
   module _ (none : n ≡ 0) where
     -- a line that no refusal but 6 could stop is not past the limit
-    pub line-limit : t ≤ last-stamp
-    line-limit = ltb-false last-stamp t (none-first 3 (ltb last-stamp t) (none-first 2 (ltb last-action act) (sym number ∙ none) .1) .0)
+    pub line-limit : stamp ≤ last-stamp
+    line-limit = ltb-false last-stamp stamp (none-first 3 (ltb last-stamp stamp) (none-first 2 (ltb last-action action) (sym number ∙ none) .1) .0)
 
-    six : (b : Bool) → c .is-blind ≡ b → (after : Cuts Lengths) → taken-by p c (Call.line l) ≡ after
+    six : (b : Bool) → c .clock .is-blind ≡ b → (after : Cuts Lengths) → taken-by p c (Call.line l) ≡ after
         → refusal-by p c (Call.line l) ≡ given 6 (not b && ltb most-open (length (after .front .held)))
     six b e after w =
         line-number
-        ∙ ap (λ (m : ℕ). first-of m (given 6 (not (c .is-blind) && ltb most-open (length (taken-by p c (Call.line l) .front .held))))) none
+        ∙ ap (λ (m : ℕ). first-of m (given 6 (not (c .clock .is-blind) && ltb most-open (length (taken-by p c (Call.line l) .front .held))))) none
         ∙ (λ i. given 6 (not (e i) && ltb most-open (length (w i .front .held))))
 
-    after-line : (b d : Bool) → c .is-blind ≡ b → beyond (meant p) (c .latest) t ≡ d
-        → taken-by p c (Call.line l)
-        ≡ cond b
-        (cond d (record { is-blind = false; front = front-after p (front-fresh p) l; latest = t }) (record { is-blind = true; front = front-none p; latest = t }))
-        (record { is-blind = false; front = front-after p (c .front) l; latest = t })
-    after-line b d e f =
-        λ i.
-        cond (e i)
-        (cond (f i) (record { is-blind = false; front = front-after p (front-fresh p) l; latest = t }) (record { is-blind = true; front = front-none p; latest = t }))
-        (record { is-blind = false; front = front-after p (c .front) l; latest = t })
-
     -- "taken while blind is skipped",
-    pub line-skipped : c .is-blind ≡ true → t ≤ c .latest + 2 * p .ub → Comes p c (Call.line l) (record { is-blind = true; front = front-none p; latest = t })
-    line-skipped e h = let w = after-line true false e (le-ltb (c .latest + 2 * p .ub) t h) in record { none = six true e _ w; taken = w }
+    pub line-skipped : c .clock .is-blind ≡ true → beyond (meant p) (c .clock) stamp ≡ false
+        → Comes p c (Call.line l) (record { clock = ticked (c .clock) l true; front = front-none p })
+    line-skipped e far = let w = by-time-is (meant p) (c .clock) stamp _ _ _ e far in record { none = six true e _ w; taken = w }
 
-    -- "unless T exceeds the latest stamp by more than 2·UB";
-    pub line-first : c .is-blind ≡ true → c .latest + 2 * p .ub < t
-        → Comes p c (Call.line l) (record { is-blind = false; front = front-after p (front-fresh p) l; latest = t })
-    line-first e h = let w = after-line true true e (lt-ltb (c .latest + 2 * p .ub) t h) in record { none = six true e _ w; taken = w }
+    -- "unless T exceeds the latest stamp by more than 2·UB",
+    pub line-first : c .clock .is-blind ≡ true → beyond (meant p) (c .clock) stamp ≡ true
+        → Comes p c (Call.line l) (record { clock = ticked (c .clock) l false; front = front-after p (front-fresh p) l })
+    line-first e far = let w = by-time-is (meant p) (c .clock) stamp _ _ _ e far in record { none = six true e _ w; taken = w }
 
     -- a line of the run, for which there is room,
-    pub line-next : c .is-blind ≡ false → length (front-after p (c .front) l .held) ≤ most-open
-        → Comes p c (Call.line l) (record { is-blind = false; front = front-after p (c .front) l; latest = t })
+    pub line-next : c .clock .is-blind ≡ false → length (front-after p (c .front) l .held) ≤ most-open
+        → Comes p c (Call.line l) (record { clock = ticked (c .clock) l false; front = front-after p (c .front) l })
     line-next e room =
-        let w = after-line false (beyond (meant p) (c .latest) t) e refl in
+        let w = by-time-is (meant p) (c .clock) stamp _ _ _ e refl in
         record { none = six false e _ w ∙ ap (given 6) (le-ltb most-open (length (front-after p (c .front) l .held)) room); taken = w }
 
     -- or not.
-    pub line-crowded : c .is-blind ≡ false → most-open < length (front-after p (c .front) l .held) → refusal-by p c (Call.line l) ≡ 6
+    pub line-crowded : c .clock .is-blind ≡ false → most-open < length (front-after p (c .front) l .held) → refusal-by p c (Call.line l) ≡ 6
     line-crowded e crowd =
-        let w = after-line false (beyond (meant p) (c .latest) t) e refl in
+        let w = by-time-is (meant p) (c .clock) stamp _ _ _ e refl in
         six false e _ w ∙ ap (given 6) (lt-ltb most-open (length (front-after p (c .front) l .held)) crowd)

@@ -1,16 +1,18 @@
-// What a call on lent arrays answers: refused, taken, blind; which refusal of a line or a gap mark holds first; how many are open.
+// What a call on lent rows answers: refused, taken, blind; which refusal of a line or a gap mark holds first; how many are open.
 ghost use mathlib.Core.Path.{_≡_};
-ghost use mathlib.Core.Bool.{true, cond};
+ghost use mathlib.Core.Bool.{cond};
 ghost use Prim.Native.Nat.{_+_, _-_, _≤_};
 ghost use lib.Dec.{ltb};
 ghost use Rattle.meaning.specs.Limits.{last-action, most-open};
 ghost use Rattle.meaning.specs.Numbers.{given, first-of};
 ghost use Rattle.meaning.specs.Calls.{stamp-refusal};
 ghost use Rattle.meaning.specs.Calls;
+ghost use Rattle.rows.specs.Rows.{none};
+ghost use Rattle.clock.specs.Time.{clock-of};
 ghost use Rattle.session_record.specs.Step.{answer-of};
+use clock::Clock;
 use held::Status;
 use limits::LAST_ACTION;
-use limits::LAST_STAMP;
 use session_record::Answer;
 use session_record::Told;
 
@@ -36,13 +38,12 @@ pub fn unmoved(number: u64, status: Status) -> Told
 }
 
 // No run is open.
-pub fn blinded(verdict: u8, t: u64) -> Told
-    ensures { λ r. ⌜ r ≡ record { answer = record { refusal = 0; verdict = verdict; open_count = 0 }; status = record { count = 0; latest = t; blind = true } } ⌝ }
+pub fn blinded(verdict: u8, clock: Clock) -> Told
+    ensures { λ r. ⌜ r ≡ record { answer = record { refusal = 0; verdict = verdict; open_count = 0 }; status = record { span = none; clock = clock } } ⌝ }
 {
     let status = Status {
-        count: 0,
-        latest: t,
-        blind: true,
+        span: rows::spanning(0),
+        clock: clock,
     };
     Told {
         answer: taken(verdict, 0),
@@ -50,35 +51,22 @@ pub fn blinded(verdict: u8, t: u64) -> Told
     }
 }
 
-// Refusal 4 or 5 of a stamp, the first that holds, else 0.
-fn stamp_refused(latest: u64, t: u64) -> u64
-    ensures { λ r. ⌜ r ≡ stamp-refusal latest t ⌝ }
-{
-    if LAST_STAMP < t {
-        return 4;
-    }
-    if t < latest {
-        return 5;
-    }
-    0
-}
-
 // Refusal 3, 4 or 5 of a line with its action, or of a gap mark with its number of lost lines.
-pub fn refused(number: u8, latest: u64, t: u64) -> u64
-    ensures { λ r. ⌜ r ≡ first-of (given 3 (ltb last-action number)) (stamp-refusal latest t) ⌝ }
+pub fn refused(number: u8, clock: Clock, stamp: u64) -> u64
+    ensures { λ r. ⌜ r ≡ first-of (given 3 (ltb last-action number)) (stamp-refusal (clock-of clock) stamp) ⌝ }
 {
     if LAST_ACTION < number {
         return 3;
     }
-    stamp_refused(latest, t)
+    clock::refused(clock, stamp)
 }
 
 // The number that is open after a line of a run in which the first `closed` have closed.
-pub fn open_after(count: usize, closed: usize, out: bool) -> usize
+pub fn open_after(count: usize, closed: usize, output: bool) -> usize
     requires { ⌜ (closed ≤ count) × (count ≤ most-open) ⌝ }
-    ensures { λ r. ⌜ r ≡ count - closed + cond out 0 1 ⌝ }
+    ensures { λ r. ⌜ r ≡ count - closed + cond output 0 1 ⌝ }
 {
-    if out {
+    if output {
         return count - closed;
     }
     count - closed + 1

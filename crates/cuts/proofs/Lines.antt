@@ -1,8 +1,8 @@
--- The rows of a front through one line: what closing leaves, what a new input and an output make of it.
+-- The rows of a front through one line: what closing leaves, what a new input and an output make of it; and with one cut alone.
 use Prim.Native.Nat.{ℕ, suc, _+_, _*_, _-_, _≤_, _<_}
 use mathlib.Core.Path.{_≡_, refl, sym, ap, ap₂, _∙_, subst}
 use mathlib.Core.Bool.{Bool, true, false}
-use mathlib.Core.List.{List}
+use mathlib.Core.List.{List, []}
 use native.Mathlib.Nat.{add-zero, add-suc}
 use native.Mathlib.Numerals.{add-one}
 use native.Mathlib.Omega.{arith}
@@ -13,6 +13,7 @@ use Rattle.laws.specs.Places.{first}
 use Rattle.laws.proofs.Places.{first-same, length-first}
 use Rattle.meaning.specs.Words.{Action, Line}
 use Rattle.meaning.specs.Limits.{last-stamp}
+use Rattle.meaning.specs.Numbers.{property-refusal}
 use Rattle.meaning.specs.Matcher.{Lengths}
 use Rattle.meaning.specs.Step.{Held, Front, lengths}
 use Rattle.meaning.proofs.Fronts.{closed-first, input-by, open-after-output, open-after-input}
@@ -174,6 +175,9 @@ line-after p f g action stamp output output′ e q =
 pub holds-as : (p : Property) (f g : Front Lengths) (rows : List (List ℕ)) (s : Span) (j : ℕ) → f ≡ g → Holds p f rows s j → Holds p g rows s j
 holds-as p f g rows s j e h = record { front = h .front ∙ e; usable = h .usable }
 
+pub holds-count : (p : Property) (f : Front Lengths) (rows : List (List ℕ)) (s : Span) (j : ℕ) → Holds p f rows s j → s .count ≡ length (f .held)
+holds-count p f rows s j h = sym (length-first (held-at rows s j) (s .count)) ∙ ap (λ (g : Front Lengths). length (g .held)) (h .front)
+
 -- How many are open after a line, from the number closed.
 module _ (p : Property) (rows : List (List ℕ)) (s : Span) (j action stamp d : ℕ) (closes : Closes (p .ub) rows s stamp d) where
   closed-is : front-closed p stamp (set-at rows s j 0) (first (held-at rows s j) (s .count))
@@ -195,3 +199,25 @@ module _ (p : Property) (rows : List (List ℕ)) (s : Span) (j action stamp d : 
       ∙ ap suc (sym (length-first (λ i. held-at rows s j (d + i)) (s .count - d)))
       ∙ open-after-input (meant p) (lengths (meant p)) action (line-of false action stamp) _ _ closed-is
       ∙ ap (λ (o : Bool). length (front-after p (front-of rows s j) (line-of o action stamp) .held)) (sym q)
+
+-- ---- no open input: one cut stands alone
+
+pub holds-one : (p : Property) (rows : List (List ℕ)) (s : Span) (j : ℕ) (c : Cut) → property-refusal (meant p) ≡ 0 → Room rows s → 3 + 2 * j < length rows → s .count ≡ 0 → Fits p c
+    → Holds p (record { before = set-of c; held = [] }) (with-cut rows s j 0 c) s j
+unfolding first
+holds-one p rows s j c good room there none fit =
+    record {
+      front =
+          ap₂ (λ (x : Lengths) (n : ℕ). record { before = x; held = first (held-at (with-cut rows s j 0 c) s j) n })
+          (ap set-of (cut-here rows s j 0 c room there (omega arith))) none;
+      usable =
+          record {
+            formed = good;
+            room = cut-room rows s j 0 c room there (omega arith);
+            there = subst (λ (n : ℕ). 3 + 2 * j < n) (sym (cut-tall rows s j 0 c room there (omega arith))) there;
+            stamps = λ i h. let z : ⊥ = omega arith in absurd z;
+            fits = λ i h.
+                let q : i ≡ 0 = omega arith in
+                subst (Fits p) (sym (ap (cut-at (with-cut rows s j 0 c) s j) q ∙ cut-here rows s j 0 c room there (omega arith))) fit;
+          };
+    }

@@ -10,8 +10,7 @@ refused-requires : tie.Need-refused-requires
 refused-requires c κs = search needs
 
 returns : tie.Need-returns
-returns c =
-    ap {B = Told} (λ (x : Answer). record { answer = x; status = c .before .args .status }) (c .refused .ensures)
+returns c = ap {B = Told} (λ (x : Answer). record { answer = x; status = c .before .args .status }) (c .refused .ensures)
 
 pub unmoved-spec : {M : Type 1} → statement M
 unmoved-spec = tie.close (tie.spec refused-requires returns)

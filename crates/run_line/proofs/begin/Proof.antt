@@ -1,26 +1,37 @@
 -- `run_line::begin` meets its contract.
-use mathlib.Core.Path.{ap}
-use lib.ListN.{set}
+use mathlib.Core.Path.{sym, ap₂, subst, _∙_}
+use native.Mathlib.Omega.{arith}
 use Rattle.matcher.specs.declared.Cut.{Cut}
+use Rattle.rows.specs.declared.Span.{Span}
+use Rattle.rows.specs.Rows.{Room}
+use Rattle.cuts.specs.Fronts.{with-cut}
 use borrow.Author.Needs.{needs}
 use Rattle.run_line.proofs.begin.Statement.{statement}
 use Rattle.run_line.proofs.begin.Tie as tie
 
+spanning-requires : tie.Need-spanning-requires
+spanning-requires c κs = search needs
+
 start-requires : tie.Need-start-requires
 start-requires c κs = search needs
 
-element-write-masks : tie.Need-element-write-masks
-element-write-masks c = search needs
+put-cut-requires : tie.Need-put-cut-requires
+put-cut-requires c κs =
+    let k = c .before .before in
+    (subst (Room (k .before .args .rows .now)) (sym (k .spanning .ensures)) (k .before .pre .0), k .before .pre .1, omega arith)
 
-element-write-marks : tie.Need-element-write-marks
-element-write-marks c = search needs
+same-length : tie.Need-same-length
+same-length c = search needs
 
 returns : tie.Need-returns
 returns c =
-    let a = c .before .args in (
-      ap (λ (x : Cut). set (a .masks .now) 0 (x .mask)) (c .start .ensures),
-      ap (λ (x : Cut). set (a .marks .now) 0 (x .marks)) (c .start .ensures),
+    let s = c .before .before in
+    let k = s .before .before in (
+      k .spanning .ensures,
+      c .before .put-cut .ensures
+          ∙ ap₂ (λ (x : Span) (y : Cut). with-cut (k .before .args .rows .now) x 0 0 y) (k .spanning .ensures) (s .start .ensures),
     )
 
 pub begin-spec : {M : Type 1} → statement M
-begin-spec = tie.close (tie.spec start-requires element-write-masks element-write-marks returns)
+begin-spec =
+    tie.close (tie.spec spanning-requires start-requires put-cut-requires same-length returns)
