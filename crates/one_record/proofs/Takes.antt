@@ -5,17 +5,17 @@ use Rattle.meaning.specs.Calls.{unless-refused}
 use Rattle.meaning.proofs.Refusals.{unless-taken}
 use Rattle.record_form.specs.declared.RecordRead.{RecordRead}
 use Rattle.trace_form.specs.ReadAs.{ReadAs}
-use Rattle.session_record.specs.declared.Session.{Session}
 use Rattle.session_record.specs.declared.Answer.{Answer}
 use Rattle.session_record.specs.declared.Stepped.{Stepped}
+use Rattle.session_record.specs.Lent.{Memory, record-in}
 use Rattle.one_record.specs.Takes.{Takes}
 
 -- ---- a record that is no call leaves the session as it was
 
-pub end-same : {s after : Session} {a : Answer} → Takes s ReadAs.end a after → after ≡ s
+pub end-same : {m after : Memory} {a : Answer} → Takes m ReadAs.end a after → record-in after ≡ record-in m
 end-same h = ap (λ (r : Stepped). r .session) (sym (h .taken))
 
-pub refused-same : {s after : Session} {a : Answer} {n : ℕ} → Takes s (ReadAs.refused n) a after → after ≡ s
+pub refused-same : {m after : Memory} {a : Answer} {n : ℕ} → Takes m (ReadAs.refused n) a after → record-in after ≡ record-in m
 refused-same h = ap (λ (r : Stepped). r .session) (sym (h .taken))
 
 -- ---- what is made of a record: by its kind, unless it is refused
@@ -25,11 +25,11 @@ pub kind-known : {A : Type 0} (f : RecordRead → A) (stop : A) {read x : Record
 kind-known f stop {n = n} none e is = is ∙ ap f (sym e) ∙ sym (unless-taken n _ stop none)
 
 -- an end is not refused, and a refusal is with its own number
-module _ {A : Type 0} (stop : ℕ → A) {s after : Session} {a : Answer} where
-  pub end-taken : (x : A) → Takes s ReadAs.end a after → unless-refused (a .refusal) x (stop (a .refusal)) ≡ x
+module _ {A : Type 0} (stop : ℕ → A) {m after : Memory} {a : Answer} where
+  pub end-taken : (x : A) → Takes m ReadAs.end a after → unless-refused (a .refusal) x (stop (a .refusal)) ≡ x
   end-taken x h = ap (λ (r : Stepped). unless-refused (r .answer .refusal) x (stop (r .answer .refusal))) (sym (h .taken))
 
-  pub refused-stops : (n : ℕ) → Takes s (ReadAs.refused n) a after → unless-refused (a .refusal) (stop n) (stop (a .refusal)) ≡ stop n
+  pub refused-stops : (n : ℕ) → Takes m (ReadAs.refused n) a after → unless-refused (a .refusal) (stop n) (stop (a .refusal)) ≡ stop n
   refused-stops n h = ap (λ (r : Stepped). unless-refused (r .answer .refusal) (stop n) (stop (r .answer .refusal))) (sym (h .taken)) ∙ either n
     where
       either : (k : ℕ) → unless-refused k (stop k) (stop k) ≡ stop k
