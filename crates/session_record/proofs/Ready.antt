@@ -36,6 +36,12 @@ use Rattle.session_record.proofs.Steps.{step-refused, step-taken, answe
 pub fits-ready : (s : Session) → out-of-range s ≡ false → Room (rows-of s) (span-of s) → Ready (memory-of s)
 fits-ready s e room = record { room = room; there = omega arith; ranged = ranged s e }
 
+pub lent-ready : (s : Session) → out-of-range s ≡ false → (rows : List (List ℕ)) → rows ≡ rows-of s → ((span : Span) → span .count ≤ 64 → Room rows span)
+    → Ready (memory (s .property) rows (s .shared .status))
+lent-ready s e rows same rooms =
+    subst (λ (x : List (List ℕ)). Ready (memory (s .property) x (s .shared .status))) (sym same)
+    (fits-ready s e (subst (λ (x : List (List ℕ)). Room x (span-of s)) same (rooms (span-of s) (ranged s e .few))))
+
 -- While blind,
 pub blind-ready : (m : Memory) → property-refusal (meant (m .property)) ≡ 0 → Room (m .rows) (m .status .span) → 3 < length (m .rows) → m .status .span .count ≡ 0
     → m .status .clock .blind ≡ true → m .status .clock .latest ≤ last-stamp → Ready m

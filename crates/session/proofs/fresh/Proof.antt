@@ -1,53 +1,60 @@
+-- `session::fresh` meets its contract: the property's refusal decides.
+use mathlib.Core.Path.{sym, ap, _∙_}
+use Rattle.meaning.specs.Calls
+use Rattle.session_record.specs.declared.Session.{Session}
+use Rattle.session_record.specs.Step.{answer-of}
+use Rattle.session_record.specs.Lent.{blank}
+use Rattle.session_record.proofs.Steps.{fresh-refused, fresh-taken}
+use Rattle.session_record.proofs.Making.{blank-fresh, blank-zeros}
+use borrow.Author.Needs.{needs}
 use Rattle.session.proofs.fresh.Statement.{statement}
 use Rattle.session.proofs.fresh.Tie as tie
-use Rattle.session.proofs.fresh.Reads as reads
-use Rattle.session.proofs.fresh.Lts as lts
-use Rattle.matcher.proofs.none.Reads as none-reads
-use Rattle.matcher.proofs.start.Reads as start-reads
-use Rattle.property.proofs.refused.Reads as refused-reads
-use Rattle.session.proofs.no_property.Reads as no-property-reads
-use Rattle.session.proofs.unmoved.Reads as unmoved-reads
-use Rattle.session_record.proofs.blank.Reads as blank-reads
 
--- src/lib.rt:42:9
 refused-requires : tie.Need-refused-requires
-refused-requires c κs = ?
+refused-requires c κs = search needs
 
--- src/lib.rt:44:30
 no-property-requires : tie.Need-no-property-requires
-no-property-requires c κs = ?
+no-property-requires c κs = search needs
 
--- src/lib.rt:44:45
 none-requires : tie.Need-none-requires
-none-requires c κs = ?
+none-requires c κs = search needs
 
--- src/lib.rt:44:24
 blank-requires : tie.Need-blank-requires
-blank-requires c κs = ?
+blank-requires c κs = search needs
 
--- src/lib.rt:44:9
 unmoved-requires : tie.Need-unmoved-requires
-unmoved-requires c κs = ?
+unmoved-requires c κs = search needs
 
--- src/lib.rt:44:9
 returns : tie.Need-returns
-returns c = ?
+returns c =
+    let made = c .before in
+    let none = made .before in
+    let t = none .before .before in
+    let number = t .before in
+    c .unmoved .ensures
+    ∙ ap (λ (s : Session). record { answer = answer-of (Calls.refused (number .refused .result)); session = s })
+    (made .blank .ensures ∙ (λ i. blank (none .before .no-property .ensures i) (none .none .ensures i)) ∙ blank-zeros)
+    ∙ sym (fresh-refused (number .before .args .p) (number .refused .result) (sym (number .refused .ensures)) (t .if1 .taken))
 
--- src/lib.rt:46:22
 start-requires : tie.Need-start-requires
-start-requires c κs = ?
+start-requires c κs = search needs
 
--- src/lib.rt:46:13
 blank-requires-2 : tie.Need-blank-requires-2
-blank-requires-2 c κs = ?
+blank-requires-2 c κs = search needs
 
--- src/lib.rt:46:5
 unmoved-requires-2 : tie.Need-unmoved-requires-2
-unmoved-requires-2 c κs = ?
+unmoved-requires-2 c κs = search needs
 
--- src/lib.rt:39:1
 returns-2 : tie.Need-returns-2
-returns-2 c = ?
+returns-2 c =
+    let made = c .before in
+    let e = made .before .before in
+    let number = e .before in
+    let p = number .before .args .p in
+    c .unmoved2 .ensures
+    ∙ ap (λ (s : Session). record { answer = answer-of (Calls.refused 0); session = s })
+    (made .blank2 .ensures ∙ ap (blank p) (made .before .start .ensures) ∙ blank-fresh p)
+    ∙ sym (fresh-taken p (sym (number .refused .ensures) ∙ e .if1 .left))
 
 pub fresh-spec : {M : Type 1} → statement M
 fresh-spec =
