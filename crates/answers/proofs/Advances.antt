@@ -1,9 +1,8 @@
 -- Calls on memory that is ready: each leads to what the code leaves.
 use Prim.Native.Nat.{ℕ, _+_, _-_, _≤_, _<_}
-use mathlib.Core.Path.{_≡_, refl, sym, _∙_, ap, ap₂, subst}
+use mathlib.Core.Path.{_≡_, refl, sym, _∙_, ap, subst}
 use mathlib.Core.Bool.{Bool, true, false, cond}
 use mathlib.Core.List.{List, []}
-use native.Mathlib.Omega.{arith}
 use native.Mathlib.Nat.{add-zero}
 use lib.ListN.{length}
 use lib.Dec.{ltb}
@@ -14,20 +13,18 @@ use Rattle.meaning.specs.Node.{Verdict, verdict-number}
 use Rattle.meaning.specs.Calls.{Call, mark-at, ticked, marked, stamp-refusal, beyond}
 use Rattle.meaning.specs.Calls
 use Rattle.meaning.specs.Matcher.{Lengths, at-start}
-use Rattle.meaning.specs.Step.{Held, Front, Cuts}
+use Rattle.meaning.specs.Step.{Front, Cuts}
 use Rattle.property.specs.Meant.{meant}
 use Rattle.property.specs.declared.Property.{Property}
-use Rattle.matcher.specs.Sets.{set-of, cut-of, Fits}
+use Rattle.matcher.specs.Sets.{cut-of}
 use Rattle.matcher.proofs.Words.{set-back, short-fits, start-short}
-use Rattle.rows.specs.declared.Span.{Span}
-use Rattle.rows.specs.Rows.{none, Room}
+use Rattle.rows.specs.Rows.{none}
 use Rattle.rows.proofs.Rows.{count-spanning, room-none}
 use Rattle.clock.specs.declared.Clock.{Clock}
 use Rattle.clock.specs.Time.{clock-of, stored-clock}
-use Rattle.held.specs.declared.Status.{Status}
 use Rattle.held.specs.Held.{Closes}
-use Rattle.cuts.specs.Steps.{line-of, front-after, front-fresh, front-none, front-says, verdict-by, refusal-by, taken-by, told-by, says}
-use Rattle.cuts.specs.Fronts.{with-cut, held-at, front-of, Usable, Holds}
+use Rattle.cuts.specs.Steps.{line-of, front-after, front-fresh, front-none, front-says, verdict-by, refusal-by, told-by, says}
+use Rattle.cuts.specs.Fronts.{with-cut, front-of, Holds}
 use Rattle.cuts.proofs.Lines.{open-at-output, open-at-input, holds-one}
 use Rattle.session_record.specs.declared.Told.{Told}
 use Rattle.session_record.specs.declared.Answer.{Answer}
@@ -35,7 +32,7 @@ use Rattle.session_record.specs.Step.{answer-of}
 use Rattle.session_record.specs.Lent.{Memory, memory, held-in, Ready, Advanced, LineTaken}
 use Rattle.session_record.proofs.Fit.{Fit}
 use Rattle.session_record.proofs.Ready.{blind-ready, open-ready, call-refused, call-taken, taken-fits}
-use Rattle.answers.proofs.Lines.{Comes, line-limit, line-skipped, line-first, line-next, line-crowded}
+use Rattle.answers.proofs.Lines.{Comes, line-skipped, line-first, line-next, line-crowded}
 
 -- The call leads to these rows and what is given back beside them.
 abbrev pub Leads : Memory → Call → List (List ℕ) → Told → Type 0

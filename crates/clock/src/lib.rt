@@ -1,5 +1,5 @@
 // The clock of a session, which all properties of a log share: the latest stamp, and is the session blind.
-ghost use Prim.Native.Nat.{ℕ, _≤_};
+ghost use Prim.Native.Nat.{_≤_};
 ghost use mathlib.Core.Path.{_≡_};
 ghost use Rattle.meaning.specs.Limits.{last-stamp};
 ghost use Rattle.meaning.specs.Words.{Line};

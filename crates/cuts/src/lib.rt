@@ -1,6 +1,6 @@
 // One line of a run on lent rows. What belongs to one property is two rows: the two words of each cut, one before each open input and one
 // after all. What all properties share, the open inputs, is in `held`.
-ghost use Prim.Native.Nat.{ℕ, _+_, _-_, _*_, _≤_, _<_};
+ghost use Prim.Native.Nat.{_+_, _-_, _*_, _≤_, _<_};
 ghost use mathlib.Core.Path.{_≡_};
 ghost use mathlib.Core.Bool.{false};
 ghost use lib.ListN.{length};

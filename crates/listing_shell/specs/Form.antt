@@ -5,8 +5,7 @@ use mathlib.Core.List.{List}
 use lib.ListN.{length}
 use Rattle.record_form.specs.Record.{Reader, record-size, record-answer}
 use Rattle.tap_form.specs.Tap.{tap-size, tap-answer}
-use Rattle.session_record.specs.declared.Session.{Session}
-use Rattle.session_record.specs.Lent.{Ready}
+use Rattle.session_record.specs.Lent.{Memory, record-in, Ready}
 use Rattle.printed.specs.declared.lent.Added.{Added}
 use Rattle.printed.specs.Lent.{in-session}
 use Rattle.printed.specs.Printed.{printed-by}
@@ -24,8 +23,8 @@ reader-of Tap = tap-answer
 
 -- What the next record adds, after so many that were taken: what the record that the form's reader reads from the bytes that came, no more
 -- than a record has, adds to the listing; and the next one can start.
-pub record Lists (form : Form) (s : Session) (count : ℕ) (r : Added) (after : Session) : Type 0 where
+pub record Lists (form : Form) (m : Memory) (count : ℕ) (r : Added) (after : Memory) : Type 0 where
   pub bytes : List ℕ
   pub few : length bytes ≤ size-of form
-  pub adds : printed-by (reader-of form) s count bytes ≡ in-session r after
+  pub adds : printed-by (reader-of form) (record-in m) count bytes ≡ in-session r (record-in after)
   pub ready : Ready after

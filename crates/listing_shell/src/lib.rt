@@ -2,13 +2,14 @@
 // are read from a descriptor, and the listing is written to standard output. What is written, the crate `printed` says.
 ghost use Prim.Native.Nat.{_≤_};
 ghost use mathlib.Core.Path.{_≡_};
-ghost use mathlib.Core.Bool.{true};
+ghost use mathlib.Core.Bool.{true, false};
 ghost use lib.ListN.{length};
 ghost use Rattle.io.specs.Counts.{Counts};
 ghost use Rattle.record_form.specs.Record.{ReadBy};
 ghost use Rattle.table.specs.Table.{IsTable};
 ghost use Rattle.line_text.specs.Text.{room};
-ghost use Rattle.session_record.specs.Lent.{in-arrays, Ready};
+ghost use Rattle.session_record.specs.Record.{out-of-range};
+ghost use Rattle.session_record.specs.Lent.{memory, Ready};
 ghost use Rattle.listing_shell.specs.Form.{size-of, reader-of, Lists};
 use held::Status;
 use libc::STDOUT_FILENO;
@@ -17,7 +18,9 @@ use printed::Printed;
 use printed::lent::Added;
 use property::Property;
 use record_form::RecordRead;
+use rows::Words;
 use session_record::Session;
+use table::Table;
 
 pub fn write_front(bytes: &[u8], len: usize) -> bool
     requires { ⌜ len ≤ length (now bytes) ⌝ }
@@ -59,7 +62,7 @@ pub fn read_form(fd: i32, form: &mut [u8]) -> usize
 
 // Reads the property.
 pub fn begun(fd: i32) -> Printed
-    ensures { λ r. ⌜ (r .text .len ≤ room) × (r .more ≡ true → Ready (r .session)) ⌝ }
+    ensures { λ r. ⌜ (r .text .len ≤ room) × (r .more ≡ true → out-of-range (r .session) ≡ false) ⌝ }
 {
     let mut form = [0u8; 71];
     let got = read_form(fd, &mut form);
@@ -97,54 +100,36 @@ fn next(
     fd: i32,
     form: Form,
     p: Property,
-    table: &[u8; 4257],
-    held: &mut [u64; 64],
-    acts: &mut [u8; 64],
-    masks: &mut [u64; 65],
-    marks: &mut [u64; 65],
+    table: &Table,
+    rows: &mut [Words],
     status: Status,
     count: u64,
 ) -> Added
-    requires { ⌜ Ready (in-arrays p (now held) (now acts) (now masks) (now marks) status) × IsTable p (now table) ⌝ }
-    ensures { λ r. ⌜ Lists form (in-arrays p (now (held .entry)) (now (acts .entry)) (now (masks .entry)) (now (marks .entry)) status)
-        count r (in-arrays p (now (held .exit)) (now (acts .exit)) (now (masks .exit)) (now (marks .exit)) (r .status)) ⌝ }
+    requires { ⌜ Ready (memory p (now rows) status) × IsTable p (now table) ⌝ }
+    ensures { λ r. ⌜ Lists form (memory p (now (rows .entry)) status) count r (memory p (now (rows .exit)) (r .status)) ⌝ }
 {
     let size = record_size(form);
     let mut bytes = [0u8; 6];
     let got = io::read_full(fd, &mut bytes[..size]);
-    let read = read_record(form, &bytes[..got], status.latest);
-    printed::lent::record(p, table, held, acts, masks, marks, status, count, read)
+    let clock = status.clock;
+    let read = read_record(form, &bytes[..got], clock.latest);
+    printed::lent::record(p, table, rows, status, count, read)
 }
 
-// Lists the records. The table is made once, and the arrays are lent from record to record. A proved loop has to end, and
+// Lists the records. The table is made once, and the rows are lent from record to record. A proved loop has to end, and
 // nothing says that the input does: the loop counts its turns down, from a number that no run uses up.
 fn records(fd: i32, form: Form, s: Session)
-    requires { ⌜ Ready s ⌝ }
+    requires { ⌜ out-of-range s ≡ false ⌝ }
 {
     let p = s.property;
     let shared = s.shared;
-    let row = s.row;
     let table = table::table(p);
-    let mut held = shared.held;
-    let mut acts = shared.acts;
-    let mut masks = row.masks;
-    let mut marks = row.marks;
+    let mut rows = session_record::rows_of(s);
     let mut status = shared.status;
     let mut count = 0;
     let mut turns = u64::MAX;
     while turns > 0 {
-        let r = next(
-            fd,
-            form,
-            p,
-            &table,
-            &mut held,
-            &mut acts,
-            &mut masks,
-            &mut marks,
-            status,
-            count,
-        );
+        let r = next(fd, form, p, &table, &mut rows, status, count);
         if !shown(r.text, r.more) {
             return;
         }

@@ -70,12 +70,13 @@ pub fn record<'a>(site: &'a [u8], release: &'a [u8], s: Session, count: u64, byt
 {
     let shared = s.shared;
     let status = shared.status;
+    let clock = status.clock;
     let r = printed::record(s, count, bytes);
     let line = r.text;
     let session = r.session;
     if r.more {
         return Named {
-            text: named_line(site, release, bytes, status.latest, r.count, line),
+            text: named_line(site, release, bytes, clock.latest, r.count, line),
             session: session,
             count: r.count,
             more: true,

@@ -11,13 +11,14 @@ use Rattle.record_form.specs.declared.RecordRead.{RecordRead}
 use Rattle.record_form.specs.declared.RecordRead.the-variants.{Input, Output, Gap, End, Refused}
 use Rattle.trace_form.proofs.ReadAs.{read-case}
 use Rattle.held.specs.declared.Status.{Status}
-use Rattle.cuts.specs.Arrays.{number-of}
+use Rattle.cuts.specs.Fronts.{number-of}
 use Rattle.cuts.specs.Steps.{line-of}
 use Rattle.session_record.specs.declared.Session.{Session}
 use Rattle.session_record.specs.declared.Stepped.{Stepped}
 use Rattle.session_record.specs.declared.Answer.{Answer}
 use Rattle.session_record.specs.Record.{latest-of, out-of-range}
 use Rattle.session_record.specs.Step.{stepped-of}
+use Rattle.session_record.specs.Lent.{Memory, record-in}
 use Rattle.one_record.specs.Takes.{Takes}
 use Rattle.one_record.proofs.Takes.{end-same, refused-same, end-taken, refused-stops}
 use Rattle.walk.specs.Walk.{One, one-call, try-call, one-read}
@@ -47,10 +48,11 @@ module _ (reader : Reader) (s : Session) (count : ℕ) (bytes : List ℕ) where
   unfolding printed-by
   not-named e = ap by-range e
 
-  -- what a record adds that the reader has read
-  pub read-adds : {read : RecordRead} {r : Added} {after : Session} → out-of-range s ≡ false → ReadBy reader bytes (latest-of s) read → Adds s count (case-as read) r after
-      → printed-by reader s count bytes ≡ in-session r after
-  read-adds e h a = not-named e ∙ ap (λ (x : ReadAs). by-one s count (one-read s x)) (read-case h) ∙ a .listed
+-- what a record adds that the reader has read
+pub read-adds : (reader : Reader) (m : Memory) (count : ℕ) (bytes : List ℕ) {read : RecordRead} {r : Added} {after : Memory} → out-of-range (record-in m) ≡ false
+    → ReadBy reader bytes (latest-of (record-in m)) read → Adds m count (case-as read) r after → printed-by reader (record-in m) count bytes ≡ in-session r (record-in after)
+read-adds reader m count bytes e h a =
+    not-named reader (record-in m) count bytes e ∙ ap (λ (x : ReadAs). by-one (record-in m) count (one-read (record-in m) x)) (read-case h) ∙ a .listed
 
 -- ---- the property
 
@@ -82,13 +84,19 @@ added-status a status count read = go (a .refusal) read
     go zero (Refused number) = refl
     go (suc n) x = refl
 
-module _ (s : Session) (count : ℕ) (a : Answer) (status : Status) (after : Session) where
+module _ (m : Memory) (count : ℕ) (a : Answer) (status : Status) (next : Memory) where
+  abbrev s : Session
+  s = record-in m
+
+  abbrev after : Session
+  after = record-in next
+
   -- the last line at a refusal
   abbrev stop : ℕ → Added
   stop n = last-added status count (stop-text count n)
 
   -- a record that is a call, by the line that is printed if it is taken
-  call-listed : (c : Call) → Takes s (ReadAs.call c) a after → (line : List ℕ)
+  call-listed : (c : Call) → Takes m (ReadAs.call c) a next → (line : List ℕ)
       → (stepped-of s c .answer .refusal ≡ 0 → line ≡ call-text (one-after count) c (stepped-of s c .session))
       → by-one s count (one-read s (ReadAs.call c)) ≡ in-session (unless-refused (a .refusal) (next-added status count line) (stop (a .refusal))) after
   call-listed c led line shows = ap (by-one s count) tried ∙ go (stepped-of s c .answer .refusal) refl ∙ ap (λ (n : ℕ). in-session (added n) after) number
@@ -109,7 +117,7 @@ module _ (s : Session) (count : ℕ) (a : Answer) (status : Status) (after : Ses
       go zero z = unfold one-call by-one in (λ i. record { text = text-of (sym (shows z) i); session = same i; count = one-after count; more = true })
       go (suc n) z = unfold one-call by-one in (ap (λ (y : Session). last-line y count (stop-text count (suc n))) (sym (refused-stays s c n z) ∙ same))
 
-  line-listed : (output : Bool) (action stamp : ℕ) → Takes s (ReadAs.call (Call.line (line-of output action stamp))) a after
+  line-listed : (output : Bool) (action stamp : ℕ) → Takes m (ReadAs.call (Call.line (line-of output action stamp))) a next
       → by-one s count (one-read s (ReadAs.call (Call.line (line-of output action stamp))))
       ≡ in-session (unless-refused (a .refusal) (next-added status count (line-text (one-after count) (cond output 1 0) action stamp (a .verdict) (a .open_count))) (stop (a .refusal))) after
   line-listed output action stamp led = call-listed c led _ (λ z. shown (line-answered s (line-of output action stamp) z))
@@ -140,7 +148,7 @@ module _ (s : Session) (count : ℕ) (a : Answer) (status : Status) (after : Ses
   refused-last n = refl
 
   -- what was read, kind by kind
-  listed : (read : RecordRead) → Takes s (case-as read) a after → by-one s count (one-read s (case-as read)) ≡ in-session (added-of a status count read) after
+  listed : (read : RecordRead) → Takes m (case-as read) a next → by-one s count (one-read s (case-as read)) ≡ in-session (added-of a status count read) after
   listed (Input action stamp) led = line-listed false action stamp led
   listed (Output action stamp) led = line-listed true action stamp led
   listed (Gap lost stamp) led = call-listed (mark-at lost stamp) led _ (mark-shown lost stamp)
@@ -153,10 +161,10 @@ module _ (s : Session) (count : ℕ) (a : Answer) (status : Status) (after : Ses
       ∙ ap (λ (y : Session). last-line y count (stop-text count number)) (sym (refused-same led))
       ∙ ap (λ (r : Added). in-session r after) (sym (refused-stops stop number led))
 
--- what a record adds; `made` is the session of the arrays after it
-pub read-listed : (s : Session) (count : ℕ) (read : RecordRead) (a : Answer) (status : Status) (made : Status → Session) → Takes s (case-as read) a (made status)
-    → (r : Added) → r ≡ added-of a status count read → Adds s count (case-as read) r (made (r .status))
-read-listed s count read a status made led r is =
-    subst (λ (x : Added). Adds s count (case-as read) x (made (x .status))) (sym is)
-    (subst (λ (t : Status). Adds s count (case-as read) (added-of a status count read) (made t)) (sym (added-status a status count read))
-    (record { listed = listed s count a status (made status) read led; ready = led .ready }))
+-- what a record adds; `made` is the memory after it
+pub read-listed : (m : Memory) (count : ℕ) (read : RecordRead) (a : Answer) (status : Status) (made : Status → Memory) → Takes m (case-as read) a (made status)
+    → (r : Added) → r ≡ added-of a status count read → Adds m count (case-as read) r (made (r .status))
+read-listed m count read a status made led r is =
+    subst (λ (x : Added). Adds m count (case-as read) x (made (x .status))) (sym is)
+    (subst (λ (t : Status). Adds m count (case-as read) (added-of a status count read) (made t)) (sym (added-status a status count read))
+    (record { listed = listed m count a status (made status) read led; ready = led .ready }))

@@ -1,4 +1,4 @@
--- A record on a session and on the tidied one: the same, but that where nothing is taken the session comes back as it was.
+-- A record on a session and on the one made of its rows: the same, but that where nothing is taken the session comes back as it was.
 use Prim.Native.Nat.{ℕ, zero, suc}
 use mathlib.Core.Path.{_≡_, refl, sym, _∙_, ap, subst}
 use mathlib.Core.Bool.{Bool, true, false}
@@ -11,9 +11,9 @@ use Rattle.session_record.specs.declared.Session.{Session}
 use Rattle.session_record.specs.declared.Stepped.{Stepped}
 use Rattle.session_record.specs.Record.{latest-of, out-of-range}
 use Rattle.session_record.specs.Step.{refusal-of, stepped-of}
-use Rattle.session_record.specs.Lent.{tidied}
+use Rattle.session_record.specs.Lent.{Memory, memory-of, record-in, tidied}
 use Rattle.session_record.proofs.Steps.{answer-refusal}
-use Rattle.session_record.proofs.Tidy.{tidied-refusal, tidied-taken}
+use Rattle.session_record.proofs.Ready.{tidied-refusal, tidied-taken}
 use Rattle.walk.specs.Walk.{One, one-call, one-read, one-of}
 use Rattle.printed.specs.declared.Printed.{Printed}
 use Rattle.printed.specs.declared.lent.Added.{Added}
@@ -45,20 +45,20 @@ module _ (s : Session) (fits : out-of-range s ≡ false) (count : ℕ) where
   same-listed ReadAs.end = unfold one-read by-one in (none refl refl)
   same-listed (ReadAs.refused n) = unfold one-read by-one in (none refl refl)
 
-  -- the record by value, from the one on the tidied arrays
-  module _ (bytes : List ℕ) (r : Added) (after : Session) (adds : Adds (tidied s) count (read-as (record-answer bytes (latest-of s))) r after) where
+  -- the record by value, from the one on its rows
+  module _ (bytes : List ℕ) (r : Added) (after : Memory) (adds : Adds (memory-of s) count (read-as (record-answer bytes (latest-of s))) r after) where
     by-same : (w : Printed) → Same (by-one s count (one-of s bytes)) w
         → (w .more ≡ true → w ≡ printed-of s count bytes)
         × (w .more ≡ false → record { text = w .text; session = s; count = w .count; more = false } ≡ printed-of s count bytes)
     by-same w (took e m) = ((λ z. sym e ∙ sym (not-named record-answer s count bytes fits)), (λ z. no (sym z ∙ m)))
     by-same w (none e m) = ((λ z. no (sym m ∙ z)), (λ z. sym e ∙ sym (not-named record-answer s count bytes fits)))
 
-    by-value : Same (by-one s count (one-of s bytes)) (in-session r after)
+    by-value : Same (by-one s count (one-of s bytes)) (in-session r (record-in after))
     by-value = subst (Same (by-one s count (one-of s bytes))) (adds .listed) (same-listed (read-as (record-answer bytes (latest-of s))))
 
-    pub by-value-more : r .more ≡ true → _≡_ {A = Printed} (record { text = r .text; session = after; count = r .count; more = true }) (printed-of s count bytes)
+    pub by-value-more : r .more ≡ true → _≡_ {A = Printed} (record { text = r .text; session = record-in after; count = r .count; more = true }) (printed-of s count bytes)
     by-value-more z =
-        ap (λ (m : Bool). record { text = r .text; session = after; count = r .count; more = m }) (sym z) ∙ by-same (in-session r after) by-value .0 z
+        ap (λ (m : Bool). record { text = r .text; session = record-in after; count = r .count; more = m }) (sym z) ∙ by-same (in-session r (record-in after)) by-value .0 z
 
     pub by-value-last : r .more ≡ false → _≡_ {A = Printed} (record { text = r .text; session = s; count = r .count; more = false }) (printed-of s count bytes)
-    by-value-last z = by-same (in-session r after) by-value .1 z
+    by-value-last z = by-same (in-session r (record-in after)) by-value .1 z

@@ -1,6 +1,6 @@
 -- The listing goes record by record as a walk does, and never meets refusal 10.
 use Prim.Native.Nat.{ℕ, zero, suc}
-use mathlib.Core.Path.{_≡_, refl, sym, _∙_, ap, subst}
+use mathlib.Core.Path.{_≡_, refl, sym, _∙_, ap}
 use mathlib.Core.Bool.{Bool, true, false, cond}
 use mathlib.Core.List.{List}
 use native.Mathlib.Omega.{arith}
@@ -16,10 +16,8 @@ use Rattle.record_form.specs.Record.{record-size, record-answer}
 use Rattle.session_record.specs.declared.Session.{Session}
 use Rattle.session_record.specs.Record.{out-of-range}
 use Rattle.session_record.specs.Step.{fresh-of}
-use Rattle.session_record.specs.Lent.{Ready}
-use Rattle.session_record.proofs.Fit.{fresh-fit}
+use Rattle.session_record.proofs.Fit.{fresh-fit, in-range}
 use Rattle.session_record.proofs.Steps.{stays-in-range}
-use Rattle.session_record.proofs.Ready.{fit-ready}
 use Rattle.session_record.proofs.Running.{fresh-record}
 use Rattle.walk.specs.declared.Stop.the-variants.{Refused}
 use Rattle.walk.specs.Walk.{One, one-of, stopped, walked-by, walk-on, walk-of}
@@ -59,10 +57,10 @@ as-walked s count bytes =
 
 -- ---- refusal 10
 
--- A property that was taken has a session from which records can start, and which refusal 10 does not name.
-pub begins-ready : (bytes : List ℕ) → begun-of bytes .more ≡ true → Ready (begun-of bytes .session)
+-- A property that was taken has a session that refusal 10 does not name.
+pub begins-fit : (bytes : List ℕ) → begun-of bytes .more ≡ true → out-of-range (begun-of bytes .session) ≡ false
 unfolding begun-of read read-refusal
-begins-ready bytes m = go (read-refusal bytes) formed m
+begins-fit bytes m = go (read-refusal bytes) formed m
   where
     p : Property
     p = property-read bytes
@@ -70,8 +68,9 @@ begins-ready bytes m = go (read-refusal bytes) formed m
     formed : read-refusal bytes ≡ 0 → property-refusal (meant p) ≡ 0
     formed z = first-of-none (given 8 (pad-broken bytes)) (first-of-none (given 7 (too-short bytes)) z .1) .1
 
-    go : (n : ℕ) → (n ≡ 0 → property-refusal (meant p) ≡ 0) → eqb (answer n p .refusal) 0 ≡ true → Ready (fresh-of (answer n p .property) .session)
-    go zero h q = subst Ready (sym (fresh-record p (h refl))) (fit-ready p (h refl) (fresh-fit p))
+    go : (n : ℕ) → (n ≡ 0 → property-refusal (meant p) ≡ 0) → eqb (answer n p .refusal) 0 ≡ true
+        → out-of-range (fresh-of (answer n p .property) .session) ≡ false
+    go zero h q = ap out-of-range (fresh-record p (h refl)) ∙ in-range p (h refl) (fresh-fit p)
     go (suc n) h q = let z : suc n ≡ 0 = eqb-true (suc n) 0 q in let f : ⊥ = omega arith in absurd f
 
 abbrev StepOf : Session → One → Type 0

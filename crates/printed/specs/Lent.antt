@@ -1,4 +1,4 @@
--- A record on lent arrays: what it adds to the listing.
+-- A record on lent rows: what it adds to the listing.
 use Prim.Native.Nat.{ℕ}
 use mathlib.Core.Path.{_≡_}
 use mathlib.Core.Bool.{true, false}
@@ -11,7 +11,7 @@ use Rattle.trace_form.specs.ReadAs.{ReadAs}
 use Rattle.held.specs.declared.Status.{Status}
 use Rattle.session_record.specs.declared.Session.{Session}
 use Rattle.session_record.specs.declared.Answer.{Answer}
-use Rattle.session_record.specs.Lent.{Ready}
+use Rattle.session_record.specs.Lent.{Memory, record-in, Ready}
 use Rattle.walk.specs.Walk.{one-read}
 use Rattle.line_text.specs.Text.{text-of}
 use Rattle.printout.specs.Text.{line-text, end-text, stop-text}
@@ -46,7 +46,7 @@ added-of a status count read =
 abbrev pub in-session : Added → Session → Printed
 in-session r after = record { text = r .text; session = after; count = r .count; more = r .more }
 
--- A record that stands for x adds this and leads to a session from which the next record can start.
-pub record Adds (s : Session) (count : ℕ) (x : ReadAs) (r : Added) (after : Session) : Type 0 where
-  pub listed : by-one s count (one-read s x) ≡ in-session r after
+-- A record that stands for x adds this and leads to memory from which the next record can start.
+pub record Adds (m : Memory) (count : ℕ) (x : ReadAs) (r : Added) (after : Memory) : Type 0 where
+  pub listed : by-one (record-in m) count (one-read (record-in m) x) ≡ in-session r (record-in after)
   pub ready : Ready after

@@ -8,7 +8,7 @@ use Rattle.meaning.specs.Calls.{Call}
 use Rattle.property_form.specs.Read.{read}
 use Rattle.record_form.specs.Record.{Reader, record-answer, input, output, gap}
 use Rattle.trace_form.specs.ReadAs.{read-as}
-use Rattle.cuts.specs.Arrays.{number-of}
+use Rattle.cuts.specs.Fronts.{number-of}
 use Rattle.session_record.specs.declared.Session.{Session}
 use Rattle.session_record.specs.Record.{count-of, latest-of, out-of-range}
 use Rattle.session_record.specs.Step.{fresh-of, standing}

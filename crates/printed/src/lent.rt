@@ -1,17 +1,19 @@
-// A record on lent arrays, which hold 0 in each place not in use: the printing program lends them from record to record.
+// A record on lent rows: the printing program lends them from record to record.
 ghost use mathlib.Core.Path.{_≡_};
 ghost use mathlib.Core.Bool.{false};
 ghost use Rattle.table.specs.Table.{IsTable};
 ghost use Rattle.trace_form.specs.ReadAs.{case-as};
-ghost use Rattle.session_record.specs.Lent.{in-arrays, Ready};
+ghost use Rattle.session_record.specs.Lent.{memory, Ready};
 ghost use Rattle.printed.specs.Lent.{added-of, Adds};
 use held::Status;
 use line_text::Text;
 use property::Property;
 use record_form::RecordRead;
+use rows::Words;
 use session_record::Answer;
+use table::Table;
 
-// What a record adds to the listing, and the numbers beside the arrays after it.
+// What a record adds to the listing, and what stands beside the rows after it.
 pub struct Added {
     pub text: Text,
     pub status: Status,
@@ -79,20 +81,16 @@ fn adds(answer: Answer, status: Status, count: u64, read: RecordRead) -> Added
 // A record as it was read, after `count` that were taken.
 pub fn record(
     p: Property,
-    table: &[u8; 4257],
-    held: &mut [u64; 64],
-    acts: &mut [u8; 64],
-    masks: &mut [u64; 65],
-    marks: &mut [u64; 65],
+    table: &Table,
+    rows: &mut [Words],
     status: Status,
     count: u64,
     read: RecordRead,
 ) -> Added
-    requires { ⌜ Ready (in-arrays p (now held) (now acts) (now masks) (now marks) status) × IsTable p (now table) ⌝ }
-    ensures { λ r. ⌜ Adds (in-arrays p (now (held .entry)) (now (acts .entry)) (now (masks .entry)) (now (marks .entry)) status)
-        count (case-as read) r (in-arrays p (now (held .exit)) (now (acts .exit)) (now (masks .exit)) (now (marks .exit)) (r .status)) ⌝ }
+    requires { ⌜ Ready (memory p (now rows) status) × IsTable p (now table) ⌝ }
+    ensures { λ r. ⌜ Adds (memory p (now (rows .entry)) status) count (case-as read) r (memory p (now (rows .exit)) (r .status)) ⌝ }
 {
-    let told = one_record::take(p, table, held, acts, masks, marks, status, read);
+    let told = one_record::take(p, table, rows, status, read);
     let answer = told.answer;
     let next = told.status;
     adds(answer, next, count, read)

@@ -35,31 +35,17 @@ pub fn record(s: Session, count: u64, bytes: &[u8]) -> Printed
     }
     let p = s.property;
     let shared = s.shared;
-    let row = s.row;
-    let table = table::table(p);
-    let mut held = shared.held;
-    let mut acts = shared.acts;
-    let mut masks = row.masks;
-    let mut marks = row.marks;
     let status = shared.status;
-    in_place::tidy(p, &mut held, &mut acts, &mut masks, &mut marks, status);
-    let read = record_form::read_record(bytes, status.latest);
-    let r = lent::record(
-        p,
-        &table,
-        &mut held,
-        &mut acts,
-        &mut masks,
-        &mut marks,
-        status,
-        count,
-        read,
-    );
+    let clock = status.clock;
+    let table = table::table(p);
+    let mut rows = session_record::rows_of(s);
+    let read = record_form::read_record(bytes, clock.latest);
+    let r = lent::record(p, &table, &mut rows, status, count, read);
     let text = r.text;
     if r.more {
         return Printed {
             text: text,
-            session: session_record::made(p, held, acts, masks, marks, r.status),
+            session: session_record::made(p, &rows, r.status),
             count: r.count,
             more: true,
         };

@@ -1,7 +1,7 @@
 // The rows that a session lends, each of 65 words: row 0 has the stamps of the open inputs, row 1 the numbers of their actions, rows 2 + 2j
 // and 3 + 2j the two words of each cut of property j, one before each open input and one after all. Where an index stands in a row is said
 // here and nowhere else.
-ghost use Prim.Native.Nat.{ℕ, _+_, _-_, _≤_, _<_};
+ghost use Prim.Native.Nat.{_+_, _-_, _≤_, _<_};
 ghost use mathlib.Core.Path.{_≡_};
 ghost use mathlib.Core.List.{[]};
 ghost use lib.ListN.{length, getD};

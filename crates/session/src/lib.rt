@@ -79,12 +79,12 @@ pub fn mark(s: Session, lost: u8, stamp: u64) -> Stepped
     let shared = s.shared;
     let rows = rows_of(s);
     let told = gap_mark::mark(p, &rows, shared.status, lost, stamp);
-    let answer = told.answer;
-    if answer.refusal != 0 {
-        return unmoved(s, answer.refusal);
+    let closing = told.answer;
+    if closing.refusal != 0 {
+        return unmoved(s, closing.refusal);
     }
     Stepped {
-        answer: answer,
+        answer: closing,
         session: made(p, &rows, told.status),
     }
 }

@@ -10,10 +10,9 @@ use Rattle.laws.proofs.Places.{length-first}
 use Rattle.laws.proofs.Tests.{neither}
 use Rattle.laws.proofs.Below.{none-below}
 use Rattle.meaning.specs.Limits.{last-stamp, most-open}
-use Rattle.meaning.specs.Words.{Line}
 use Rattle.meaning.specs.Numbers.{given, property-refusal, action-above}
 use Rattle.meaning.specs.Calls.{Call, Clock, ticked, unless-refused, stamp-refusal}
-use Rattle.meaning.specs.Matcher.{Lengths, none-of, some-to}
+use Rattle.meaning.specs.Matcher.{Lengths, none-of}
 use Rattle.meaning.specs.Step.{Front, Cuts, lengths}
 use Rattle.meaning.proofs.Tests.{some-to-none}
 use Rattle.meaning.proofs.Refusals.{first-of-none, none-first, given-none}
@@ -24,12 +23,10 @@ use Rattle.meaning.proofs.InOrder.{InOrder, ended, nothing, stamp-at, order-inp
 use Rattle.meaning.proofs.Throughout.{Throughout, Preserved, with-throughout, fresh-throughout, none-throughout}
 use Rattle.property.specs.Meant.{meant}
 use Rattle.property.specs.declared.Property.{Property}
-use Rattle.matcher.specs.Sets.{Short, stray}
+use Rattle.matcher.specs.Sets.{Short}
 use Rattle.matcher.proofs.Words.{fits-short, none-short, start-short, either-short, moved-short}
 use Rattle.rows.specs.declared.Span.{Span}
 use Rattle.rows.specs.Rows.{spanning, word}
-use Rattle.rows.proofs.Rows.{count-spanning}
-use Rattle.clock.specs.Time.{clock-of}
 use Rattle.cuts.specs.Steps.{front-after, front-fresh, front-none, fresh-by, refusal-by, taken-by, next-by}
 use Rattle.cuts.specs.Fronts.{cut-at, held-at, front-of}
 use Rattle.session_record.specs.Record.{cuts-of, record-of, out-of-range}

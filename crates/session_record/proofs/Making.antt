@@ -1,6 +1,6 @@
 -- The rows of a record, and the record that is made of rows.
 use Prim.Native.Nat.{ℕ, zero, suc, _+_, _≤_, _<_}
-use mathlib.Core.Path.{_≡_, refl, sym, ap, ap₂, subst, _∙_}
+use mathlib.Core.Path.{_≡_, refl, sym, ap, _∙_}
 use mathlib.Core.Bool.{Bool, true, false, cond}
 use mathlib.Core.List.{List, [], _∷_, map}
 use native.Mathlib.Omega.{arith}
@@ -15,13 +15,11 @@ use Rattle.meaning.specs.Matcher.{Lengths, at-start, none-of}
 use Rattle.meaning.specs.Step.{Held, Front}
 use Rattle.property.specs.declared.Property.{Property}
 use Rattle.matcher.specs.declared.Cut.{Cut}
-use Rattle.matcher.specs.Sets.{set-of, cut-of}
+use Rattle.matcher.specs.Sets.{cut-of}
 use Rattle.matcher.proofs.Words.{cut-back}
 use Rattle.rows.specs.declared.Span.{Span}
-use Rattle.rows.specs.Rows.{spanning, none, word, Room}
-use Rattle.rows.proofs.Rows.{count-spanning}
+use Rattle.rows.specs.Rows.{spanning, none, Room}
 use Rattle.clock.specs.declared.Clock.{Clock}
-use Rattle.cuts.specs.declared.Row.{Row}
 use Rattle.cuts.specs.Steps.{front-none, fresh-by}
 use Rattle.cuts.specs.Fronts.{cut-at, set-at, held-at, front-of, number-of, sets-of}
 use Rattle.session_record.specs.declared.Session.{Session}

@@ -1,14 +1,15 @@
 -- Memory that a call can start from: what its rows hold, and what a call refused or taken leaves.
-use Prim.Native.Nat.{ℕ, suc, _+_, _≤_, _<_}
-use mathlib.Core.Path.{_≡_, refl, sym, _∙_, ap, ap₂, subst}
+use Prim.Native.Nat.{ℕ, suc, _≤_, _<_}
+use mathlib.Core.Path.{_≡_, sym, _∙_, ap, subst}
 use mathlib.Core.Bool.{Bool, true, false, cond}
-use mathlib.Core.List.{List, map}
+use mathlib.Core.List.{List}
 use native.Mathlib.Omega.{arith}
 use lib.ListN.{length}
 use Rattle.laws.proofs.Places.{length-first, getD-first}
 use Rattle.meaning.specs.Limits.{last-stamp}
 use Rattle.meaning.specs.Matcher.{Lengths, none-of}
 use Rattle.meaning.specs.Numbers.{property-refusal}
+use Rattle.meaning.specs.Node.{Verdict}
 use Rattle.meaning.specs.Calls.{Call}
 use Rattle.meaning.specs.Calls
 use Rattle.meaning.specs.Step.{Held, Front, Cuts}
@@ -17,18 +18,17 @@ use Rattle.property.specs.Meant.{meant}
 use Rattle.property.specs.declared.Property.{Property}
 use Rattle.rows.specs.declared.Span.{Span}
 use Rattle.rows.specs.Rows.{word, Room}
-use Rattle.held.specs.declared.Status.{Status}
-use Rattle.cuts.specs.Steps.{front-none, refusal-by, taken-by, told-by}
+use Rattle.cuts.specs.Steps.{front-none, fresh-by, refusal-by, taken-by, told-by, says}
 use Rattle.cuts.specs.Fronts.{held-at, front-of, Usable}
 use Rattle.session_record.specs.declared.Session.{Session}
 use Rattle.session_record.specs.declared.Answer.{Answer}
 use Rattle.session_record.specs.declared.Stepped.{Stepped}
 use Rattle.session_record.specs.Record.{rows-of, span-of, cuts-of, record-of, out-of-range}
-use Rattle.session_record.specs.Step.{answer-of, refusal-of, stepped-of}
-use Rattle.session_record.specs.Lent.{Memory, memory, memory-of, held-in, record-in, tidied, Ranged, Ready, Advanced}
+use Rattle.session_record.specs.Step.{answer-of, refusal-of, stepped-of, fresh-of}
+use Rattle.session_record.specs.Lent.{Memory, memory, memory-of, held-in, record-in, tidied, Ready, Advanced}
 use Rattle.session_record.proofs.Range.{ranged, ranged-within}
-use Rattle.session_record.proofs.Fit.{Fit, ranged-fit, taken-fit, cuts-back, in-range}
-use Rattle.session_record.proofs.Steps.{step-refused, step-taken, answer-refusal, refusal-fits}
+use Rattle.session_record.proofs.Fit.{Fit, fresh-fit, ranged-fit, taken-fit, cuts-back, in-range}
+use Rattle.session_record.proofs.Steps.{step-refused, step-taken, answer-refusal, refusal-fits, fresh-taken}
 
 -- ---- which memory is ready
 
@@ -178,3 +178,23 @@ module _ (s : Session) (fits : out-of-range s ≡ false) (k : Call) where
 
     pub by-value-refused : (a .refusal ≡ 0 → ⊥) → record { answer = answer-of (Calls.refused (a .refusal)); session = s } ≡ stepped-of s k
     by-value-refused h = sym (step-refused s k (a .refusal) (sym told) h)
+
+-- ---- the rows of a fresh session
+
+module _ (p : Property) (good : property-refusal (meant p) ≡ 0) (r : Stepped) (e : r ≡ fresh-of p) (rows : List (List ℕ)) (same : rows ≡ rows-of (r .session)) where
+  abbrev pub fresh-memory : Memory
+  fresh-memory = memory p rows (r .session .shared .status)
+
+  taken : _≡_ {A = Stepped} r (record { answer = answer-of (says p Verdict.clear 0); session = record-of p (fresh-by p) })
+  taken = e ∙ fresh-taken p good
+
+  pub fresh-means : record-in fresh-memory ≡ record-of p (fresh-by p)
+  fresh-means =
+      ap (λ (x : List (List ℕ)). record-in (memory p x (r .session .shared .status))) same
+      ∙ ap (λ (x : Stepped). record-in (memory p (rows-of (x .session)) (x .session .shared .status))) taken
+      ∙ ap (record-of p) (cuts-back p good (fresh-fit p))
+
+  pub fresh-ready : ((span : Span) → span .count ≤ 64 → Room rows span) → Ready fresh-memory
+  fresh-ready rooms =
+      subst (λ (q : Property). Ready (memory q rows (r .session .shared .status))) (ap (λ (x : Stepped). x .session .property) taken)
+      (lent-ready (r .session) (ap (λ (x : Stepped). out-of-range (x .session)) taken ∙ in-range p good (fresh-fit p)) rows same rooms)

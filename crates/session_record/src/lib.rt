@@ -1,5 +1,5 @@
 // The session record, which the caller keeps; the rows of it that are lent, and the way back; what calls on it give back; refusal 10.
-ghost use Prim.Native.Nat.{ℕ, _≤_, _<_};
+ghost use Prim.Native.Nat.{_≤_, _<_};
 ghost use mathlib.Core.Path.{_≡_};
 ghost use lib.ListN.{length};
 ghost use Rattle.meaning.specs.Calls;

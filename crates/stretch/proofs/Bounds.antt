@@ -11,7 +11,7 @@ use Rattle.meaning.specs.Limits.{most-lost, last-stamp, most-open}
 use Rattle.meaning.specs.Words.{Line}
 use Rattle.meaning.specs.Words
 use Rattle.meaning.specs.Numbers.{given, first-of, property-refusal, length-outside, bounds-outside, any-action-above, action-above}
-use Rattle.meaning.specs.Calls.{Call, stamp-refusal}
+use Rattle.meaning.specs.Calls.{Call, Clock, stamp-refusal}
 use Rattle.property.specs.Meant.{meant}
 use Rattle.property.specs.declared.Property.{Property}
 use Rattle.property_form.specs.Read.{read, read-refusal, too-short, pad-broken, property-read, taken}
@@ -72,17 +72,17 @@ refusal-le : (s : Session) (c : Call) → refusal-of s c ≤ 10
 unfolding refusal-of
 refusal-le s c = then-le 10 (out-of-range s) (refusal-by (s .property) (cuts-of s) c) (omega arith) (step-le c)
   where
-    stamp-le : (latest t : ℕ) → stamp-refusal latest t ≤ 10
-    stamp-le latest t = two-le 4 5 (ltb last-stamp t) (ltb t latest) (omega arith) (omega arith)
+    stamp-le : (k : Clock) (t : ℕ) → stamp-refusal k t ≤ 10
+    stamp-le k t = two-le 4 5 (ltb last-stamp t) (ltb t (k .latest)) (omega arith) (omega arith)
 
     room : Line → Bool
     room l = not (blind-of s) && ltb most-open (length (taken-by (s .property) (cuts-of s) (Call.line l) .front .held))
 
     step-le : (c : Call) → refusal-by (s .property) (cuts-of s) c ≤ 10
     step-le (Call.line l) =
-        then-le 3 (action-above (l .action)) (first-of (stamp-refusal (latest-of s) (l .stamp)) (given 6 (room l))) (omega arith)
-        (first-le 10 (stamp-refusal (latest-of s) (l .stamp)) (given 6 (room l)) (stamp-le (latest-of s) (l .stamp)) (given-le 10 6 (room l) (omega arith)))
-    step-le (Call.mark g) = then-le 3 (ltb most-lost (g .lost)) (stamp-refusal (latest-of s) (g .stamp)) (omega arith) (stamp-le (latest-of s) (g .stamp))
+        then-le 3 (action-above (l .action)) (first-of (stamp-refusal (cuts-of s .clock) (l .stamp)) (given 6 (room l))) (omega arith)
+        (first-le 10 (stamp-refusal (cuts-of s .clock) (l .stamp)) (given 6 (room l)) (stamp-le (cuts-of s .clock) (l .stamp)) (given-le 10 6 (room l) (omega arith)))
+    step-le (Call.mark g) = then-le 3 (ltb most-lost (g .lost)) (stamp-refusal (cuts-of s .clock) (g .stamp)) (omega arith) (stamp-le (cuts-of s .clock) (g .stamp))
 
 stepped-le : (s : Session) (c : Call) → stepped-of s c .answer .refusal ≤ 10
 stepped-le s c = subst (λ (n : ℕ). n ≤ 10) (sym (answer-refusal s c)) (refusal-le s c)

@@ -1,6 +1,6 @@
 -- How the judge's parts come together.
 use Prim.Native.Nat.{ℕ, zero, suc, _+_, _*_, _≤_, _<_}
-use mathlib.Core.Path.{_≡_, refl, sym, _∙_, ap, subst}
+use mathlib.Core.Path.{_≡_, refl, sym, _∙_, ap}
 use mathlib.Core.Bool.{Bool, true, false, cond}
 use mathlib.Core.List.{List}
 use native.Mathlib.Omega.{arith}
@@ -8,7 +8,8 @@ use lib.ListN.{length}
 use lib.Dec.{ltb}
 use borrow.Author.Tests.{lt-ltb, le-ltb}
 use Rattle.meaning.specs.Node.{Verdict, verdict-number}
-use Rattle.meaning.specs.Numbers.{property-refusal}
+use Rattle.meaning.specs.Matcher.{Lengths}
+use Rattle.meaning.specs.Step.{Front, Cuts}
 use Rattle.property.specs.Meant.{meant}
 use Rattle.property.specs.declared.Property.{Property}
 use Rattle.property.proofs.Refusal.{taken-bounds}
@@ -16,47 +17,29 @@ use Rattle.property_form.specs.declared.PropertyRead.{PropertyRead}
 use Rattle.property_form.specs.Form.{form-size}
 use Rattle.property_form.specs.Read.{property-read, read, read-refusal, taken}
 use Rattle.property_form.proofs.Answers.{refusal-read, not-refused, property-of-read, taken-all}
-use Rattle.cuts.specs.Steps.{front-none, front-says, fresh-by}
-use Rattle.cuts.specs.Arrays.{front-of}
+use Rattle.cuts.specs.Steps.{front-none, front-says, fresh-by, verdict-by}
+use Rattle.cuts.specs.Fronts.{front-of}
 use Rattle.session_record.specs.declared.Session.{Session}
-use Rattle.session_record.specs.declared.Stepped.{Stepped}
-use Rattle.session_record.specs.Record.{count-of, blind-of, record-of}
-use Rattle.session_record.specs.Lent.{in-arrays, Ready}
-use Rattle.session_record.specs.Step.{fresh-of, standing}
-use Rattle.session_record.proofs.Fit.{fresh-fit}
-use Rattle.session_record.proofs.Steps.{fresh-taken}
-use Rattle.session_record.proofs.Ready.{fit-ready}
+use Rattle.session_record.specs.Record.{record-of}
+use Rattle.session_record.specs.Lent.{Memory, record-in, Ready}
+use Rattle.session_record.specs.Step.{standing}
+use Rattle.session_record.proofs.Ready.{ready-stands}
 use Rattle.walk.specs.declared.Stop.{Stop}
 use Rattle.walk.specs.declared.Stop.the-variants.{Budget, End, Refused}
 use Rattle.walk.specs.Walk.{Walk, walk-on}
 use Rattle.stretch.specs.declared.Judged.{Judged}
 use Rattle.stretch.specs.Judge.{refused, ended, by-stop, trace-judged, by-property, judge-of, in-one, one-number}
 
-module _ (p : Property) (good : property-refusal (meant p) ≡ 0) where
-  -- the arrays of a fresh session of a property that is taken, with the property beside them
-  abbrev pub lent : Stepped → Session
-  lent r =
-      let s : Session = r .session in
-      in-arrays p (s .shared .held) (s .shared .acts) (s .row .masks) (s .row .marks) (s .shared .status)
-
-  lent-is : (r : Stepped) → r ≡ fresh-of p → lent r ≡ record-of p (fresh-by p)
-  lent-is r e = ap (λ (x : Stepped). lent x) (e ∙ fresh-taken p good)
-
-  pub fresh-ready : (r : Stepped) → r ≡ fresh-of p → Ready (lent r)
-  fresh-ready r e = subst Ready (sym (lent-is r e)) (fit-ready p good (fresh-fit p))
-
-  -- the judgement, by what the walk over the trace came to
-  pub judged-by : (trace : List ℕ) (r : Stepped) → r ≡ fresh-of p → (w : Walk) → walk-on (length trace) (lent r) trace ≡ w
-      → trace-judged p trace ≡ by-stop (w .stop) (ltb (w .read) (length trace)) w
-  judged-by trace r e w h =
+-- The judgement, by what the walk over the trace came to, on rows that mean a fresh session.
+module _ (p : Property) (trace : List ℕ) (s : Session) (e : s ≡ record-of p (fresh-by p)) (w : Walk) (h : walk-on (length trace) s trace ≡ w) where
+  judged-by : trace-judged p trace ≡ by-stop (w .stop) (ltb (w .read) (length trace)) w
+  judged-by =
       ap (λ (x : Walk). by-stop (x .stop) (ltb (x .read) (length trace)) x)
-      (ap (λ (s : Session). walk-on (length trace) s trace) (sym (lent-is r e)) ∙ h)
+      (ap (λ (x : Session). walk-on (length trace) x trace) (sym e) ∙ h)
 
--- each way to stop
-module _ (p : Property) (good : property-refusal (meant p) ≡ 0) (trace : List ℕ) (r : Stepped) (e : r ≡ fresh-of p) (w : Walk)
-    (h : walk-on (length trace) (lent p good r) trace ≡ w) where
+  -- each way to stop
   stopped-by : (stop : Stop) → w .stop ≡ stop → trace-judged p trace ≡ by-stop stop (ltb (w .read) (length trace)) w
-  stopped-by stop q = judged-by p good trace r e w h ∙ ap (λ (x : Stop). by-stop x (ltb (w .read) (length trace)) w) q
+  stopped-by stop q = judged-by ∙ ap (λ (x : Stop). by-stop x (ltb (w .read) (length trace)) w) q
 
   pub judged-budget : w .stop ≡ Budget → trace-judged p trace ≡ refused 7
   unfolding by-stop
@@ -127,17 +110,21 @@ module _ (property trace : List ℕ) (r : PropertyRead) (e : r ≡ read property
       ∙ ap (λ (x : PropertyRead). trace-judged (x .property) trace) (sym e)
 
 -- the verdict standing
-module _ (s : Session) where
-  standing-if : (b : Bool) → blind-of s ≡ b
-      → verdict-number (cond b Verdict.blind (front-says (s .property) (cond b (front-none (s .property)) (front-of (s .shared .held) (s .shared .acts) (count-of s) (s .row))))) ≡ standing s
+module _ (m : Memory) (ready : Ready m) where
+  abbrev own : Front Lengths
+  own = front-of (m .rows) (m .status .span) 0
+
+  standing-if : (b : Bool) → m .status .clock .blind ≡ b
+      → verdict-number (cond b Verdict.blind (front-says (m .property) (cond b (front-none (m .property)) own))) ≡ standing (record-in m)
   unfolding standing
   standing-if b e =
-      ap (λ (t : Bool). verdict-number (cond t Verdict.blind (front-says (s .property) (cond t (front-none (s .property)) (front-of (s .shared .held) (s .shared .acts) (count-of s) (s .row)))))) (sym e)
+      ap (λ (t : Bool). verdict-number (cond t Verdict.blind (front-says (m .property) (cond t (front-none (m .property)) own)))) (sym e)
+      ∙ ap (λ (c : Cuts Lengths). verdict-number (verdict-by (m .property) c)) (sym (ready-stands m ready))
 
-  pub standing-blind : blind-of s ≡ true → 3 ≡ standing s
+  pub standing-blind : m .status .clock .blind ≡ true → 3 ≡ standing (record-in m)
   standing-blind e = standing-if true e
 
-  pub standing-open : blind-of s ≡ false → verdict-number (front-says (s .property) (front-of (s .shared .held) (s .shared .acts) (count-of s) (s .row))) ≡ standing s
+  pub standing-open : m .status .clock .blind ≡ false → verdict-number (front-says (m .property) own) ≡ standing (record-in m)
   standing-open e = standing-if false e
 
 -- the one number

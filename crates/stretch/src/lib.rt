@@ -3,10 +3,11 @@ ghost use mathlib.Core.Path.{_≡_};
 ghost use Rattle.meaning.specs.Numbers.{property-refusal};
 ghost use Rattle.property.specs.Meant.{meant};
 ghost use Rattle.session_record.specs.Step.{standing};
-ghost use Rattle.session_record.specs.Lent.{in-arrays, Ready};
+ghost use Rattle.session_record.specs.Lent.{memory, record-in, Ready};
 ghost use Rattle.stretch.specs.Judge.{refused, trace-judged, judge-of, one-number};
 use held::Status;
 use property::Property;
+use rows::Words;
 use walk::Stop;
 
 // "the count at most 16,383"
@@ -29,22 +30,16 @@ fn refusal(number: u64) -> Judged
     }
 }
 
-// The verdict standing on the session that these arrays hold.
-fn verdict_of(
-    p: Property,
-    held: &[u64; 64],
-    acts: &[u8; 64],
-    masks: &[u64; 65],
-    marks: &[u64; 65],
-    status: Status,
-) -> u64
-    requires { ⌜ Ready (in-arrays p (now held) (now acts) (now masks) (now marks) status) ⌝ }
-    ensures { λ r. ⌜ r ≡ standing (in-arrays p (now (held .entry)) (now (acts .entry)) (now (masks .entry)) (now (marks .entry)) status) ⌝ }
+// The verdict standing on the session that these rows hold.
+fn verdict_of(p: Property, rows: &[Words], status: Status) -> u64
+    requires { ⌜ Ready (memory p (now rows) status) ⌝ }
+    ensures { λ r. ⌜ r ≡ standing (record-in (memory p (now (rows .entry)) status)) ⌝ }
 {
-    if status.blind {
+    let clock = status.clock;
+    if clock.blind {
         return 3;
     }
-    cuts::verdict(masks, marks, status.count) as u64
+    cuts::verdict(rows, status.span, 0) as u64
 }
 
 // The trace, by a property that is taken.
@@ -56,22 +51,8 @@ fn trace_verdict(p: Property, trace: &[u8]) -> Judged
     let fresh = session::fresh(p);
     let s = fresh.session;
     let shared = s.shared;
-    let row = s.row;
-    let mut held = shared.held;
-    let mut acts = shared.acts;
-    let mut masks = row.masks;
-    let mut marks = row.marks;
-    let r = walk::records(
-        p,
-        &table,
-        &mut held,
-        &mut acts,
-        &mut masks,
-        &mut marks,
-        shared.status,
-        trace,
-        trace.len(),
-    );
+    let mut rows = session_record::rows_of(s);
+    let r = walk::records(p, &table, &mut rows, shared.status, trace, trace.len());
     let stop = r.stop;
     match stop {
         Stop::Budget => refusal(7),
@@ -79,7 +60,7 @@ fn trace_verdict(p: Property, trace: &[u8]) -> Judged
             if r.read < trace.len() {
                 return refusal(8);
             }
-            let verdict = verdict_of(p, &held, &acts, &masks, &marks, r.status);
+            let verdict = verdict_of(p, &rows, r.status);
             Judged {
                 refusal: 0,
                 verdict: verdict,

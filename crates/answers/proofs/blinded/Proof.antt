@@ -1,5 +1,4 @@
 -- `answers::blinded` meets its contract.
-use Rattle.session_record.specs.declared.Told.{Told}
 use borrow.Author.Needs.{needs}
 use Rattle.answers.proofs.blinded.Statement.{statement}
 use Rattle.answers.proofs.blinded.Tie as tie

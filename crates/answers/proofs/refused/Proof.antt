@@ -1,5 +1,4 @@
 -- `answers::refused` meets its contract: the action's number, then the stamp.
-use Rattle.meaning.specs.Limits.{last-action}
 use borrow.Author.Tests.{lt-ltb, le-ltb}
 use borrow.Author.Needs.{needs}
 use Rattle.answers.proofs.refused.Statement.{statement}

@@ -3,7 +3,6 @@ use Prim.Native.Nat.{ℕ, _<_}
 use mathlib.Core.Path.{_≡_, sym, subst}
 use mathlib.Core.Bool.{true, false}
 use mathlib.Core.List.{List}
-use native.Mathlib.Omega.{arith}
 use Rattle.meaning.specs.Matcher.{Lengths}
 use Rattle.meaning.specs.Step.{Front}
 use Rattle.rows.specs.declared.Span.{Span}

@@ -4,7 +4,7 @@ use mathlib.Core.Path.{sym, ap, subst, _∙_}
 use mathlib.Core.List.{List}
 use native.Mathlib.Omega.{arith}
 use Rattle.rows.specs.Rows.{with, Room}
-use Rattle.rows.proofs.Rows.{room-with, tall-with}
+use Rattle.rows.proofs.Rows.{room-with}
 use borrow.Author.Needs.{needs}
 use Rattle.held.proofs.append.Statement.{statement}
 use Rattle.held.proofs.append.Tie as tie

@@ -2,7 +2,6 @@
 use Prim.Native.Nat.{ℕ, _+_, _*_, _-_, _≤_, _<_}
 use native.Mathlib.Nat.{not-suc-le-zero}
 use native.Mathlib.Omega.{arith}
-use mathlib.Core.Path.{subst}
 use borrow.Author.Count.{below-more}
 use Rattle.rows.specs.Rows.{word}
 use borrow.Author.Needs.{needs}

@@ -2,17 +2,15 @@
 use Prim.Native.Nat.{ℕ, _+_, _-_, _≤_, _<_}
 use mathlib.Core.Path.{_≡_, refl, sym, ap, subst, _∙_}
 use mathlib.Core.Bool.{Bool, true, false, cond}
-use mathlib.Core.List.{List}
 use native.Mathlib.Omega.{arith}
 use borrow.Author.Tests.{not-true, not-false}
 use Rattle.meaning.specs.Limits.{last-stamp, most-open}
 use Rattle.meaning.specs.Calls.{Call}
 use Rattle.property.proofs.Refusal.{taken-bounds}
 use Rattle.rows.specs.declared.Span.{Span}
-use Rattle.rows.specs.Rows.{none, Room}
 use Rattle.rows.proofs.Rows.{count-spanning, room-none}
 use Rattle.cuts.specs.Steps.{line-of, front-fresh}
-use Rattle.cuts.specs.Fronts.{front-of, Usable, Holds}
+use Rattle.cuts.specs.Fronts.{front-of, Holds}
 use Rattle.session_record.specs.Lent.{Memory, memory, held-in}
 use Rattle.session_record.proofs.Ready.{open-usable}
 use Rattle.answers.proofs.Lines.{line-refused, line-limit}

@@ -7,7 +7,6 @@ use Rattle.meaning.specs.Calls.{Call, mark-at}
 use Rattle.session_record.specs.declared.Session.{Session}
 use Rattle.session_record.specs.Record.{out-of-range}
 use Rattle.session_record.specs.Lent.{Memory, memory, memory-of, Ready, Advanced}
-use Rattle.session_record.proofs.Range.{ranged}
 use Rattle.session_record.proofs.Steps.{named-refused}
 use Rattle.session_record.proofs.Ready.{lent-ready, by-value-taken, by-value-refused}
 use borrow.Author.Needs.{needs}
