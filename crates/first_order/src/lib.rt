@@ -13,6 +13,7 @@ ghost use Rattle.first_order.specs.Search.{pair, next-from, kind-in, Wit
 ghost use Rattle.first_order.specs.Search;
 use judged_rest::Reached;
 use property::Property;
+use table::Table;
 
 // An output, or an input.
 fn is_kind(output: bool, wanted: bool) -> bool
@@ -52,7 +53,7 @@ fn reaches(breaking: bool, verdict: u64) -> bool
 // The order with the line at place k behind it.
 fn with_line(
     p: Property,
-    table: &[u8; 4257],
+    table: &Table,
     from: Reached,
     output: bool,
     action: u8,
@@ -61,16 +62,17 @@ fn with_line(
     requires { ⌜ (property-refusal (meant p) ≡ 0) × IsTable p (now table) × Fits p (from .cut) × (k + 1 < 2 ^ 64) ⌝ }
     ensures { λ r. ⌜ (r ≡ Search.with-line p from output action k) × Fits p (r .cut) ⌝ }
 {
-    let cut = matcher::moved(p, table, from.cut, output, action);
+    let cut = matcher::moved(p, table, from.cut, output, action as u64);
+    let behind = k + 1;
     if output {
         return Reached {
             input: from.input,
-            output: k + 1,
+            output: behind,
             cut: cut,
         };
     }
     Reached {
-        input: k + 1,
+        input: behind,
         output: from.output,
         cut: cut,
     }
@@ -79,7 +81,7 @@ fn with_line(
 // The place of the next line of the order: the output, wherever the wanted end can still be reached behind it.
 fn choice(
     p: Property,
-    table: &[u8; 4257],
+    table: &Table,
     output: &[bool],
     action: &[u8],
     stamp: &[u64],
@@ -111,7 +113,7 @@ fn choice(
 // The numbers of the lines of the first order with the wanted end.
 fn order(
     p: Property,
-    table: &[u8; 4257],
+    table: &Table,
     output: &[bool],
     action: &[u8],
     stamp: &[u64],
@@ -140,7 +142,7 @@ fn order(
 // An order and its moments.
 pub fn write(
     p: Property,
-    table: &[u8; 4257],
+    table: &Table,
     output: &[bool],
     action: &[u8],
     stamp: &[u64],

@@ -1,12 +1,12 @@
 -- The lines of a run that are not yet in an order, judged from the state that the order has reached.
 use Prim.Native.Nat.{ℕ, zero, suc}
 use mathlib.Core.Path.{_≡_}
-use mathlib.Core.Bool.{Bool, false, cond}
+use mathlib.Core.Bool.{Bool, cond}
 use mathlib.Core.List.{[]}
 use lib.Dec.{eqb, leb}
 use Rattle.meaning.specs.Words.{Line}
 use Rattle.meaning.specs.Node.{verdict-number}
-use Rattle.meaning.specs.Calls.{Call, unless-refused}
+use Rattle.meaning.specs.Calls.{Call, fresh-clock, unless-refused}
 use Rattle.meaning.specs.Calls
 use Rattle.meaning.specs.Matcher.{Lengths}
 use Rattle.meaning.specs.Step.{Cuts}
@@ -14,9 +14,7 @@ use Rattle.property.specs.declared.Property.{Property}
 use Rattle.matcher.specs.declared.Cut.{Cut}
 use Rattle.matcher.specs.Sets.{set-of, set-verdict}
 use Rattle.cuts.specs.Steps.{next-by, answer-by}
-use Rattle.session_record.specs.declared.Session.{Session}
-use Rattle.session_record.specs.Record.{cuts-of}
-use Rattle.session_record.specs.Lent.{Ready}
+use Rattle.session_record.specs.Lent.{Memory, held-in, Ready}
 use Rattle.judged_rest.specs.declared.Reason.{Reason}
 use Rattle.judged_rest.specs.declared.Reached.{Reached}
 use Rattle.judged_rest.specs.Lent.{Lines, is-output, line-in}
@@ -50,15 +48,15 @@ judged-line p l k j =
 unfoldable pub turned : Property → Reached → Bool → Line → ℕ → Judged → Judged
 turned p from output l k j = unless-refused (j .told .refusal) (cond (waits from k output) (judged-line p l k j) j) j
 
--- On lent arrays: the record that they make up stands for the session over cuts, and a next line can start.
-pub record Turned (p : Property) (from : Reached) (output : Bool) (l : Line) (k : ℕ) (s : Session) (before : Reason) (after : Session) (told : Reason) : Type 0 where
-  pub goes : turned p from output l k (record { cuts = cuts-of s; told = before }) ≡ record { cuts = cuts-of after; told = told }
+-- On lent memory: what it holds, and a next line can start.
+pub record Turned (from : Reached) (output : Bool) (l : Line) (k : ℕ) (m : Memory) (before : Reason) (after : Memory) (told : Reason) : Type 0 where
+  pub goes : turned (m .property) from output l k (record { cuts = held-in m; told = before }) ≡ record { cuts = held-in after; told = told }
   pub ready : Ready after
 
 abbrev pub begun : Property → Cut → Judged
 begun p c =
     record {
-      cuts = record { is-blind = false; front = record { before = set-of c; held = [] }; latest = 0 };
+      cuts = record { clock = fresh-clock; front = record { before = set-of c; held = [] } };
       told = record { refusal = 0; verdict = verdict-number (set-verdict p (set-of c)); line = 0 };
     }
 

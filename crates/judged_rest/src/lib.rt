@@ -10,13 +10,15 @@ ghost use Rattle.property.specs.Meant.{meant};
 ghost use Rattle.table.specs.Table.{IsTable};
 ghost use Rattle.matcher.specs.Sets.{Fits};
 ghost use Rattle.cuts.specs.Steps.{line-of};
-ghost use Rattle.session_record.specs.Lent.{in-arrays, Ready};
+ghost use Rattle.session_record.specs.Lent.{memory, Ready};
 ghost use Rattle.judged_rest.specs.Lent.{lent};
 ghost use Rattle.judged_rest.specs.Judged.{refused-by, told-then, Turned, judged};
 ghost use Rattle.judged_rest.specs.Judged;
 use held::Status;
 use matcher::Cut;
 use property::Property;
+use rows::Words;
+use table::Table;
 
 // Refusal number, verdict, and the line after which it was first told.
 pub struct Reason {
@@ -25,7 +27,7 @@ pub struct Reason {
     pub line: u64,
 }
 
-// How far a judgement of the lines has come, beside the arrays.
+// How far a judgement of the lines has come, beside the rows.
 pub struct Judging {
     pub status: Status,
     pub told: Reason,
@@ -83,14 +85,11 @@ fn told(before: Reason, verdict: u64, k: usize) -> Reason
     }
 }
 
-// The line at place k on lent arrays, if it waits. Behind a refusal nothing is judged.
+// The line at place k on lent rows, if it waits. Behind a refusal nothing is judged.
 fn turn(
     p: Property,
-    table: &[u8; 4257],
-    held: &mut [u64; 64],
-    acts: &mut [u8; 64],
-    masks: &mut [u64; 65],
-    marks: &mut [u64; 65],
+    table: &Table,
+    rows: &mut [Words],
     from: Reached,
     here: Judging,
     output: bool,
@@ -98,10 +97,9 @@ fn turn(
     stamp: u64,
     k: usize,
 ) -> Judging
-    requires { ⌜ Ready (in-arrays p (now held) (now acts) (now masks) (now marks) (here .status)) × IsTable p (now table) × (k + 1 < 2 ^ 64) ⌝ }
-    ensures { λ r. ⌜ Turned p from output (line-of output action stamp) k
-        (in-arrays p (now (held .entry)) (now (acts .entry)) (now (masks .entry)) (now (marks .entry)) (here .status)) (here .told)
-        (in-arrays p (now (held .exit)) (now (acts .exit)) (now (masks .exit)) (now (marks .exit)) (r .status)) (r .told) ⌝ }
+    requires { ⌜ Ready (memory p (now rows) (here .status)) × IsTable p (now table) × (k + 1 < 2 ^ 64) ⌝ }
+    ensures { λ r. ⌜ Turned from output (line-of output action stamp) k
+        (memory p (now (rows .entry)) (here .status)) (here .told) (memory p (now (rows .exit)) (r .status)) (r .told) ⌝ }
 {
     let before = here.told;
     if before.refusal != 0 {
@@ -111,18 +109,7 @@ fn turn(
         return here;
     }
     let status = here.status;
-    let r = in_place::line(
-        p,
-        table,
-        held,
-        acts,
-        masks,
-        marks,
-        status,
-        output,
-        action,
-        stamp,
-    );
+    let r = in_place::line(p, table, rows, status, output, action, stamp);
     let answer = r.answer;
     let next = r.status;
     if answer.refusal != 0 {
@@ -140,7 +127,7 @@ fn turn(
 // Judges the lines that are not yet in the order.
 pub fn judge(
     p: Property,
-    table: &[u8; 4257],
+    table: &Table,
     output: &[bool],
     action: &[u8],
     stamp: &[u64],
@@ -151,16 +138,12 @@ pub fn judge(
     ensures { λ r. ⌜ r ≡ judged p (lent (now (output .entry)) (now (action .entry)) (now (stamp .entry))) from (length (now (stamp .entry))) .told ⌝ }
 {
     let cut = from.cut;
-    let mut held = [0u64; 64];
-    let mut acts = [0u8; 64];
-    let mut masks = [0u64; 65];
-    let mut marks = [0u64; 65];
-    masks[0] = cut.mask;
-    marks[0] = cut.marks;
+    let mut rows = [[0u64; 65]; 4];
+    let span = rows::spanning(0);
+    cuts::put_cut(&mut rows, span, 0, 0, cut);
     let status = Status {
-        count: 0,
-        latest: 0,
-        blind: false,
+        span: span,
+        clock: clock::fresh(),
     };
     let first = Reason {
         refusal: 0,
@@ -176,10 +159,7 @@ pub fn judge(
         here = turn(
             p,
             table,
-            &mut held,
-            &mut acts,
-            &mut masks,
-            &mut marks,
+            &mut rows,
             from,
             here,
             output[k],

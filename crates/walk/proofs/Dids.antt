@@ -17,7 +17,7 @@ use Rattle.session_record.specs.declared.Answer.{Answer}
 use Rattle.session_record.specs.declared.Stepped.{Stepped}
 use Rattle.session_record.specs.Record.{latest-of}
 use Rattle.session_record.specs.Step.{stepped-of}
-use Rattle.session_record.specs.Lent.{Ready}
+use Rattle.session_record.specs.Lent.{Memory, record-in, Ready}
 use Rattle.session_record.proofs.Steps.{step-refused, answer-refusal}
 use Rattle.one_record.specs.Takes.{Takes}
 use Rattle.one_record.proofs.Takes.{end-same, refused-same, end-taken, refused-stops}
@@ -41,9 +41,9 @@ Leaves Took s after bytes lost next = (record-size ≤ length bytes) × (next �
 Leaves Ended s after bytes lost next = (after ≡ s) × (record-size ≤ length bytes)
 Leaves (Not n) s after bytes lost next = after ≡ s
 
-pub record Turned (s : Session) (lost : ℕ) (bytes : List ℕ) (did : Did) (after : Session) (next : ℕ) : Type 0 where
-  pub leads : (more : Session → Walk) → walked-by (one-of s bytes) s more ≡ did-by did s after more
-  pub leaves : Leaves did s after bytes lost next
+pub record Turned (m : Memory) (lost : ℕ) (bytes : List ℕ) (did : Did) (after : Memory) (next : ℕ) : Type 0 where
+  pub leads : (more : Session → Walk) → walked-by (one-of (record-in m) bytes) (record-in m) more ≡ did-by did (record-in m) (record-in after) more
+  pub leaves : Leaves did (record-in m) (record-in after) bytes lost next
   pub ready : Ready after
 
 -- what a refused call leaves: the session as it was
@@ -52,7 +52,10 @@ refused-stays s c n e = ap (λ (r : Stepped). r .session) (step-refused s c (suc
 
 -- ---- what the record at the front stands for
 
-module _ (s : Session) (bytes : List ℕ) (r : RecordRead) (h : IsRead bytes (latest-of s) r) where
+module _ (m : Memory) (bytes : List ℕ) (r : RecordRead) (h : IsRead bytes (latest-of (record-in m)) r) where
+  abbrev s : Session
+  s = record-in m
+
   -- the arm of a `match` knows the case
   pub one-known : (x : RecordRead) → r ≡ x → one-of s bytes ≡ one-read s (case-as x)
   one-known x e = ap (one-read s) (read-known h e)
@@ -61,11 +64,11 @@ module _ (s : Session) (bytes : List ℕ) (r : RecordRead) (h : IsRead bytes (la
   whole-record x e z = read-whole h (ap (λ (y : RecordRead). numbers y .refusal) e ∙ z)
 
   -- the same of a turn
-  abbrev Turns : ℕ → Session → Turn → Type 0
-  Turns lost after t = Turned s lost bytes (t .did) after (t .lost)
+  abbrev Turns : ℕ → Memory → Turn → Type 0
+  Turns lost after t = Turned m lost bytes (t .did) after (t .lost)
 
   -- a record that is a call; `next` is the last gap's number of lost lines with it
-  call-turned : (c : Call) (x : RecordRead) → r ≡ x → case-as x ≡ ReadAs.call c → numbers x .refusal ≡ 0 → (a : Answer) (after : Session) → Takes s (ReadAs.call c) a after
+  call-turned : (c : Call) (x : RecordRead) → r ≡ x → case-as x ≡ ReadAs.call c → numbers x .refusal ≡ 0 → (a : Answer) (after : Memory) → Takes m (ReadAs.call c) a after
       → (lost next : ℕ) → cond (eqb (numbers x .kind) gap) (numbers x .action) lost ≡ next
       → Turns lost after (unless-refused (a .refusal) (record { did = Took; lost = next }) (record { did = Not (a .refusal); lost = lost }))
   call-turned c x e k z a after led lost next last = subst (λ (n : ℕ). Turns lost after (turn n)) number (go (stepped-of s c .answer .refusal) refl)
@@ -79,7 +82,7 @@ module _ (s : Session) (bytes : List ℕ) (r : RecordRead) (h : IsRead bytes (la
       number : stepped-of s c .answer .refusal ≡ a .refusal
       number = ap (λ (y : Stepped). y .answer .refusal) (led .taken)
 
-      same : stepped-of s c .session ≡ after
+      same : stepped-of s c .session ≡ record-in after
       same = ap (λ (y : Stepped). y .session) (led .taken)
 
       -- the record is the one at the front of the bytes
@@ -111,14 +114,14 @@ module _ (s : Session) (bytes : List ℕ) (r : RecordRead) (h : IsRead bytes (la
           }
 
   -- what the record did, by the session's answer to it
-  pub read-turned : (a : Answer) (after : Session) → Takes s (case-as r) a after → (lost : ℕ) (t : Turn) → t ≡ turn-of (a .refusal) lost r → Turns lost after t
+  pub read-turned : (a : Answer) (after : Memory) → Takes m (case-as r) a after → (lost : ℕ) (t : Turn) → t ≡ turn-of (a .refusal) lost r → Turns lost after t
   read-turned a after led lost t is = subst (Turns lost after) (sym is) (go r refl led)
     where
       -- a stop at a refusal
       stop : ℕ → Turn
       stop n = record { did = Not n; lost = lost }
 
-      go : (x : RecordRead) → r ≡ x → Takes s (case-as x) a after → Turns lost after (turn-of (a .refusal) lost x)
+      go : (x : RecordRead) → r ≡ x → Takes m (case-as x) a after → Turns lost after (turn-of (a .refusal) lost x)
       go (Input action stamp) e h = call-turned _ (Input action stamp) e refl refl a after h lost lost refl
       go (Output action stamp) e h = call-turned _ (Output action stamp) e refl refl a after h lost lost refl
       go (Gap number stamp) e h = call-turned _ (Gap number stamp) e refl refl a after h lost number refl

@@ -1,4 +1,4 @@
--- Records on lent arrays: what one of them did, and what a walk leads to.
+-- Records on lent rows: what one of them did, and what a walk leads to.
 use Prim.Native.Nat.{ℕ, _≤_}
 use mathlib.Core.Path.{_≡_}
 use mathlib.Core.List.{List}
@@ -6,8 +6,7 @@ use lib.ListN.{length}
 use Rattle.meaning.specs.Calls.{unless-refused}
 use Rattle.record_form.specs.declared.RecordRead.{RecordRead}
 use Rattle.record_form.specs.declared.RecordRead.the-variants.{Input, Output, Gap, End, Refused}
-use Rattle.session_record.specs.declared.Session.{Session}
-use Rattle.session_record.specs.Lent.{Ready}
+use Rattle.session_record.specs.Lent.{Memory, record-in, Ready}
 use Rattle.walk.specs.declared.Stop.{Stop}
 use Rattle.walk.specs.declared.Did.the-variants.{Took, Ended, Not}
 use Rattle.walk.specs.declared.Turn.{Turn}
@@ -25,8 +24,9 @@ kind-turn before (Refused number) = record { did = Not number; lost = before }
 abbrev pub turn-of : ℕ → ℕ → RecordRead → Turn
 turn-of refusal before read = unless-refused refusal (kind-turn before read) (record { did = Not refusal; lost = before })
 
-pub record HasGone (budget : ℕ) (s : Session) (bytes : List ℕ) (taken : ℕ) (stop : Stop) (read lost : ℕ) (after : Session) : Type 0 where
-  pub walked : walk-on budget s bytes ≡ record { taken = taken; stop = stop; read = read; session = after }
+-- A walk leads from what the memory means to what it means then, and a next one can start from that.
+pub record HasGone (budget : ℕ) (m : Memory) (bytes : List ℕ) (taken : ℕ) (stop : Stop) (read lost : ℕ) (after : Memory) : Type 0 where
+  pub walked : walk-on budget (record-in m) bytes ≡ record { taken = taken; stop = stop; read = read; session = record-in after }
   pub within : read ≤ length bytes
   pub number : lost ≡ last-lost 0 taken bytes
   pub ready : Ready after

@@ -4,7 +4,7 @@ ghost use mathlib.Core.Bool.{cond};
 ghost use lib.ListN.{length};
 ghost use Rattle.fields.specs.Rest.{Rest};
 ghost use Rattle.table.specs.Table.{IsTable};
-ghost use Rattle.session_record.specs.Lent.{in-arrays, Ready};
+ghost use Rattle.session_record.specs.Lent.{memory, Ready};
 ghost use Rattle.walk.specs.Walk.{in-numbers, walk-of, budget-of, rest-start};
 ghost use Rattle.walk.specs.declared.Did.the-variants.{Took};
 ghost use Rattle.walk.specs.Lent.{turn-of, HasGone};
@@ -12,7 +12,9 @@ use held::Status;
 use property::Property;
 use record_form::RECORD_SIZE;
 use record_form::RecordRead;
+use rows::Words;
 use session_record::Session;
+use table::Table;
 
 // "a budget of 0 to 4,096 records (more counts as 4,096)"
 const MOST_RECORDS: usize = 4096;
@@ -52,7 +54,7 @@ pub struct Turn {
     pub lost: u8,
 }
 
-// A walk on lent arrays: what it did, and the numbers beside the arrays after it.
+// A walk on lent rows: what it did, and what stands beside the rows after it.
 pub struct Went {
     pub taken: usize,
     pub stop: Stop,
@@ -114,30 +116,27 @@ fn gone(taken: usize, stop: Stop, read: usize, lost: u8, status: Status) -> Went
     }
 }
 
-// A walk on lent arrays, with any budget.
+// A walk on lent rows, with any budget.
 pub fn records(
     p: Property,
-    table: &[u8; 4257],
-    held: &mut [u64; 64],
-    acts: &mut [u8; 64],
-    masks: &mut [u64; 65],
-    marks: &mut [u64; 65],
+    table: &Table,
+    rows: &mut [Words],
     status: Status,
     trace: &[u8],
     budget: usize,
 ) -> Went
-    requires { ⌜ Ready (in-arrays p (now held) (now acts) (now masks) (now marks) status) × IsTable p (now table) ⌝ }
-    ensures { λ r. ⌜ HasGone budget (in-arrays p (now (held .entry)) (now (acts .entry)) (now (masks .entry)) (now (marks .entry)) status)
-        (now (trace .entry)) (r .taken) (r .stop) (r .read) (r .lost)
-        (in-arrays p (now (held .exit)) (now (acts .exit)) (now (masks .exit)) (now (marks .exit)) (r .status)) ⌝ }
+    requires { ⌜ Ready (memory p (now rows) status) × IsTable p (now table) ⌝ }
+    ensures { λ r. ⌜ HasGone budget (memory p (now (rows .entry)) status) (now (trace .entry)) (r .taken) (r .stop) (r .read) (r .lost)
+        (memory p (now (rows .exit)) (r .status)) ⌝ }
 {
     let mut taken = 0;
     let mut at = 0;
     let mut here = status;
     let mut lost = 0;
     while taken < budget {
-        let read = record_form::read_record(&trace[at..], here.latest);
-        let told = one_record::take(p, table, held, acts, masks, marks, here, read);
+        let clock = here.clock;
+        let read = record_form::read_record(&trace[at..], clock.latest);
+        let told = one_record::take(p, table, rows, here, read);
         let answer = told.answer;
         let next = told.status;
         let t = done(answer.refusal, lost, read);
@@ -184,25 +183,9 @@ pub fn walk(s: Session, trace: &[u8], budget: usize) -> Walked
     }
     let p = s.property;
     let shared = s.shared;
-    let row = s.row;
     let table = table::table(p);
-    let mut held = shared.held;
-    let mut acts = shared.acts;
-    let mut masks = row.masks;
-    let mut marks = row.marks;
-    let status = shared.status;
-    in_place::tidy(p, &mut held, &mut acts, &mut masks, &mut marks, status);
-    let r = records(
-        p,
-        &table,
-        &mut held,
-        &mut acts,
-        &mut masks,
-        &mut marks,
-        status,
-        trace,
-        limited(budget),
-    );
+    let mut rows = session_record::rows_of(s);
+    let r = records(p, &table, &mut rows, shared.status, trace, limited(budget));
     let stop = r.stop;
     if r.taken == 0 {
         return Walked {
@@ -218,7 +201,7 @@ pub fn walk(s: Session, trace: &[u8], budget: usize) -> Walked
         stop: stop,
         read: r.read,
         lost: r.lost,
-        session: session_record::made(p, held, acts, masks, marks, r.status),
+        session: session_record::made(p, &rows, r.status),
     }
 }
 

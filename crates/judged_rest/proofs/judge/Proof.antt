@@ -2,47 +2,100 @@
 use Prim.Native.Nat.{ℕ, _-_, _≤_}
 use mathlib.Core.Path.{_≡_, refl, ap, _∙_}
 use native.Mathlib.Omega.{arith}
-use lib.ListN.{length}
+use lib.ListN.{length, replicate}
 use borrow.Author.Needs.{needs}
-use Rattle.session_record.specs.Record.{cuts-of}
-use Rattle.session_record.specs.Lent.{in-arrays, Ready}
-use Rattle.judged_rest.specs.Lent.{lent}
+use Rattle.rows.specs.declared.Span.{Span}
+use Rattle.rows.specs.Rows.{Room}
+use Rattle.rows.proofs.Rows.{count-spanning}
+use Rattle.session_record.specs.Lent.{memory, held-in, Ready}
+use Rattle.session_record.proofs.Making.{four-room}
+use Rattle.judged_rest.specs.Lent.{Lines, lent}
 use Rattle.judged_rest.specs.Judged.{Judged, judged}
-use Rattle.judged_rest.proofs.Turns.{blank-ready, judged-start, judged-next}
+use Rattle.judged_rest.proofs.Turns.{judged-start, judged-next}
 use Rattle.judged_rest.proofs.judge.Statement.{statement}
 use Rattle.judged_rest.proofs.judge.Tie as tie
 
 abbrev Inv-loop : tie.InvT-loop
-Inv-loop p table output action stamp from held₀ acts₀ masks₀ marks₀ here₀ k₀ held acts masks marks here k =
-    (record { cuts = cuts-of (in-arrays p held acts masks marks (here .status)); told = here .told } ≡ judged p (lent output action stamp) from k)
-    × Ready (in-arrays p held acts masks marks (here .status))
+Inv-loop p table output action stamp from rows₀ here₀ k₀ rows here k =
+    (record { cuts = held-in (memory p rows (here .status)); told = here .told } ≡ judged p (lent output action stamp) from k)
+    × Ready (memory p rows (here .status))
     × (k ≤ length stamp)
+    × (length rows ≡ 4)
 
 abbrev μ-loop : tie.MeasureT-loop
-μ-loop p table output action stamp from held₀ acts₀ masks₀ marks₀ here₀ k₀ held acts masks marks here k = length stamp - k
+μ-loop p table output action stamp from rows₀ here₀ k₀ rows here k = length stamp - k
 
-array-write-masks : tie.Need-array-write-masks Inv-loop μ-loop
-array-write-masks c = search needs
+-- from the loop's start back to where the cut is stored, to where the rows are new, and to the entry
+abbrev timed : tie.After-verdict Inv-loop μ-loop → tie.After-rows2 Inv-loop μ-loop
+timed c = c .before .before
 
-array-write-marks : tie.Need-array-write-marks Inv-loop μ-loop
-array-write-marks c = search needs
+abbrev stored : tie.After-verdict Inv-loop μ-loop → tie.After-put-cut Inv-loop μ-loop
+stored c = timed c .before
+
+abbrev spanned : tie.After-put-cut Inv-loop μ-loop → tie.After-spanning Inv-loop μ-loop
+spanned c = c .before .before
+
+abbrev known : tie.After-spanning Inv-loop μ-loop → tie.After-shared-slice-known3 Inv-loop μ-loop
+known c = c .before .before
+
+abbrev entered : tie.After-shared-slice-known3 Inv-loop μ-loop → tie.After-shared-slice-known Inv-loop μ-loop
+entered c = c .before .before
+
+abbrev start : tie.After-verdict Inv-loop μ-loop → tie.Start Inv-loop μ-loop
+start c = entered (known (spanned (stored c))) .before
+
+-- from a turn back to the loop's test
+abbrev read : tie.After-turn Inv-loop μ-loop → tie.After-shared-slice-known5 Inv-loop μ-loop
+read c = c .before .before
+
+abbrev lent-out : tie.After-shared-slice-known5 Inv-loop μ-loop → tie.After-rows3 Inv-loop μ-loop
+lent-out c = c .before .before
+
+abbrev inside : tie.After-turn Inv-loop μ-loop → tie.In-loop Inv-loop μ-loop
+inside c = lent-out (read c) .before
+
+-- the run that is judged
+abbrev run : tie.Start Inv-loop μ-loop → Lines
+run b = lent (b .args .output .now) (b .args .action .now) (b .args .stamp .now)
+
+-- the rows at first, each with its places
+room : (k : tie.After-spanning Inv-loop μ-loop) → Room (replicate 4 (replicate 65 0)) (k .spanning .result)
+room k =
+    let few : k .spanning .result .count ≡ 0 = ap (λ (s : Span). s .count) (k .spanning .ensures) ∙ count-spanning 0 in
+    four-room (replicate 65 0) (replicate 65 0) (replicate 65 0) (replicate 65 0) refl refl refl refl (k .spanning .result) (omega arith)
+
+spanning-requires : tie.Need-spanning-requires Inv-loop μ-loop
+spanning-requires c κs = search needs
+
+slice-aggregate-put-cut : tie.Need-slice-aggregate-put-cut Inv-loop μ-loop
+slice-aggregate-put-cut c = search needs
+
+put-cut-requires : tie.Need-put-cut-requires Inv-loop μ-loop
+put-cut-requires c κs = (room (c .before), omega arith, omega arith)
+
+fresh-requires : tie.Need-fresh-requires Inv-loop μ-loop
+fresh-requires c κs = search needs
 
 verdict-requires : tie.Need-verdict-requires Inv-loop μ-loop
 verdict-requires c κs = search needs
 
-cast-t21 : tie.Need-cast-t21 Inv-loop μ-loop
-cast-t21 c = search needs
+cast-t20 : tie.Need-cast-t20 Inv-loop μ-loop
+cast-t20 c = search needs
 
 loop-holds : tie.Need-loop-holds Inv-loop μ-loop
 loop-holds c =
-    let b = c .before .before .before .before .before in
+    let b = start c in
     let a = b .args in
-    let good = b .pre .0 .0 in
-    let fits = b .pre .0 .2 in (
-      judged-start (a .p) good (a .from .cut) fits (lent (a .output .now) (a .action .now) (a .stamp .now)) (a .from) refl _ (c .verdict .ensures (a .p) fits),
-      blank-ready (a .p) good (a .from .cut) fits,
-      omega arith,
-    )
+    let k = stored c in
+    let s = spanned k in
+    let fits = b .pre .0 .2 in
+    let begun =
+    judged-start (a .p) (b .pre .0 .0) (a .from .cut) fits _ (k .put-cut .last .0) (s .spanning .result) (c .before .fresh .result) (room s) (omega arith)
+    (s .spanning .ensures) (c .before .fresh .ensures) (k .put-cut .ensures) (run b) (a .from) refl _ (c .verdict .ensures (a .p) fits) in
+    (begun .0, begun .1, omega arith, search needs)
+
+slice-aggregate-turn : tie.Need-slice-aggregate-turn Inv-loop μ-loop
+slice-aggregate-turn c = search needs
 
 shared-slice-read-turn : tie.Need-shared-slice-read-turn Inv-loop μ-loop
 shared-slice-read-turn c = search needs
@@ -57,34 +110,32 @@ shared-slice-read-turn-3 : tie.Need-shared-slice-read-turn-3 Inv-loop μ-loop
 shared-slice-read-turn-3 c = search needs
 
 turn-requires : tie.Need-turn-requires Inv-loop μ-loop
-turn-requires c κs =
-    let i = c .before .before .before .before .before .before .before in
-    let b = i .before .before .before .before .before .before .before in
-    (i .before .loop .inv .1, b .pre .0 .1, omega (arith, i .loop-test .taken, b .good))
+turn-requires c κs = search needs
 
 add-k : tie.Need-add-k Inv-loop μ-loop
 add-k c =
-    let i = c .before .before .before .before .before .before .before .before in
-    let b = i .before .before .before .before .before .before .before in
-    omega (arith, i .loop-test .taken, b .good)
+    let i = inside (c .before) in
+    omega (arith, i .loop-test .taken, start (i .before .before) .good)
 
 loop-less : tie.Need-loop-less Inv-loop μ-loop
 loop-less c = search needs
 
 loop-again : tie.Need-loop-again Inv-loop μ-loop
 loop-again c =
-    let i = c .before .before .before .before .before .before .before .before in
-    let b = i .before .before .before .before .before .before .before in
-    let a = b .args in
-    (judged-next (a .p) (lent (a .output .now) (a .action .now) (a .stamp .now)) (a .from) (i .before .loop .k) _ _ _ _ (i .before .loop .inv .0) (c .turn .ensures), c .turn .ensures .ready, omega arith)
+    let t = c .before .turn in
+    let i = inside (c .before) in
+    let b = start (i .before .before) in
+    let w = i .before .loop in
+    (judged-next (run b) (b .args .from) (w .k) _ _ _ _ (w .inv .0) (t .ensures), t .ensures .ready, omega arith, search needs)
 
 returns : tie.Need-returns Inv-loop μ-loop
 returns c =
-    let w = c .before .before .loop in
-    let a = c .before .before .before .before .before .before .before .before .args in
+    let l = c .before in
+    let w = l .before .loop in
+    let b = start (l .before .before) in
     ap (λ (j : Judged). j .told) (w .inv .0)
-    ∙ ap (λ (n : ℕ). judged (a .p) (lent (a .output .now) (a .action .now) (a .stamp .now)) (a .from) n .told)
-    (let e : w .k ≡ length (a .stamp .now) = omega (arith, w .inv .2, c .before .loop-test .left) in e)
+    ∙ ap (λ (n : ℕ). judged (b .args .p) (run b) (b .args .from) n .told)
+    (let e : w .k ≡ length (b .args .stamp .now) = omega (arith, w .inv .2, l .loop-test .left) in e)
 
 pub judge-spec : {M : Type 1} → statement M
 judge-spec =
@@ -92,11 +143,14 @@ judge-spec =
     (tie.spec
     Inv-loop
     μ-loop
-    array-write-masks
-    array-write-marks
+    spanning-requires
+    slice-aggregate-put-cut
+    put-cut-requires
+    fresh-requires
     verdict-requires
-    cast-t21
+    cast-t20
     loop-holds
+    slice-aggregate-turn
     shared-slice-read-turn
     shared-slice-read-turn-2
     mul-turn

@@ -1,13 +1,12 @@
 -- `walk::records` meets its contract. The loop: what has been taken, and what is left of the walk.
 use Prim.Native.Nat.{ℕ, _-_}
-use mathlib.Core.Path.{_≡_, sym, subst}
+use mathlib.Core.Path.{_≡_, refl, sym, subst}
 use mathlib.Core.List.{List}
-use lib.ListN.{drop}
+use lib.ListN.{length, drop}
 use native.Mathlib.Omega.{arith}
 use borrow.Author.Needs.{needs}
 use Rattle.held.specs.declared.Status.{Status}
-use Rattle.session_record.specs.declared.Session.{Session}
-use Rattle.session_record.specs.Lent.{in-arrays}
+use Rattle.session_record.specs.Lent.{Memory, memory}
 use Rattle.walk.specs.declared.Did.{Did}
 use Rattle.walk.specs.declared.Went.{Went}
 use Rattle.walk.specs.Lent.{HasGone}
@@ -17,38 +16,42 @@ use Rattle.walk.proofs.records.Statement.{statement}
 use Rattle.walk.proofs.records.Tie as tie
 
 abbrev Inv-loop : tie.InvT-loop
-Inv-loop p table held₀ acts₀ masks₀ marks₀ trace budget taken₀ at₀ here₀ lost₀ held acts masks marks taken at here lost =
-    Going budget taken at (in-arrays p held₀ acts₀ masks₀ marks₀ here₀) (in-arrays p held acts masks marks here) lost trace
+Inv-loop p table rows₀ trace budget taken₀ at₀ here₀ lost₀ rows taken at here lost =
+    Going budget taken at (memory p rows₀ here₀) (memory p rows here) lost trace × (length rows ≡ length rows₀)
 
 abbrev μ-loop : tie.MeasureT-loop
-μ-loop p table held₀ acts₀ masks₀ marks₀ trace budget taken₀ at₀ here₀ lost₀ held acts masks marks taken at here lost =
-    budget - taken
+μ-loop p table rows₀ trace budget taken₀ at₀ here₀ lost₀ rows taken at here lost = budget - taken
 
 -- from what a record did back to the call, the record read, the turn of the loop and the entry
+abbrev answered : tie.After-done Inv-loop μ-loop → tie.After-answer Inv-loop μ-loop
+answered k = k .before .before
+
 abbrev took : tie.After-done Inv-loop μ-loop → tie.After-take Inv-loop μ-loop
-took k = k .before .before .before
+took k = answered k .before .before
 
 abbrev reading : tie.After-done Inv-loop μ-loop → tie.After-read-record Inv-loop μ-loop
-reading k = took k .before .before .before .before .before
+reading k = took k .before .before
+
+abbrev clocked : tie.After-read-record Inv-loop μ-loop → tie.After-clock Inv-loop μ-loop
+clocked r = r .before .before
 
 abbrev turn : tie.After-done Inv-loop μ-loop → tie.In-loop Inv-loop μ-loop
-turn k = reading k .before .before
+turn k = clocked (reading k) .before
+
+abbrev entered : tie.At-loop Inv-loop μ-loop → tie.Start Inv-loop μ-loop
+entered l = l .before .before
 
 abbrev entry : tie.After-done Inv-loop μ-loop → tie.Start Inv-loop μ-loop
-entry k = turn k .before .before .before
+entry k = entered (turn k .before)
 
--- the record that the arrays make up before it and after it
-abbrev start : tie.After-done Inv-loop μ-loop → Session
-start k =
-    let w = turn k .before .loop in
-    in-arrays (entry k .args .p) (w .held) (w .acts) (w .masks) (w .marks) (w .here)
+-- the memory before it and after it
+abbrev start : tie.After-done Inv-loop μ-loop → Memory
+start k = let w = turn k .before .loop in memory (entry k .args .p) (w .rows) (w .here)
 
-abbrev given : tie.After-done Inv-loop μ-loop → Status → Session
-given k =
-    let last = took k .take .last .1 .1 in
-    in-arrays (entry k .args .p) (last .0) (last .1 .0) (last .1 .1 .0) (last .1 .1 .1 .0)
+abbrev given : tie.After-done Inv-loop μ-loop → Status → Memory
+given k = memory (entry k .args .p) (took k .take .last .1 .1 .0)
 
-abbrev next : tie.After-done Inv-loop μ-loop → Session
+abbrev next : tie.After-done Inv-loop μ-loop → Memory
 next k = given k (took k .take .result .status)
 
 -- what it did
@@ -56,21 +59,27 @@ turned : (k : tie.After-done Inv-loop μ-loop) {did : Did} → k .done .result .
     → Turned (start k) (turn k .before .loop .lost) (drop (turn k .before .loop .at) (entry k .args .trace .now)) did (next k) (k .done .result .lost)
 turned k e =
     turned-part (entry k .args .trace .now) (turn k .before .loop .at) e
-    (read-turned (start k) _ _ (reading k .read-record .ensures) (took k .take .result .answer) (next k) (took k .take .ensures) (turn k .before .loop .lost) (k .done .result) (k .done .ensures))
+    (read-turned (start k) _ _ (reading k .read-record .ensures) (took k .take .result .answer) (next k) (took k .take .ensures)
+    (turn k .before .loop .lost) (k .done .result) (k .done .ensures))
+
+-- the call leaves as many rows as there were
+tall : (k : tie.After-done Inv-loop μ-loop) → length (next k .rows) ≡ length (entry k .args .rows .now)
+tall k = search needs
 
 -- what is given back is what the walk has come to
-as-gone : {budget : ℕ} {s : Session} {bytes : List ℕ} (made : Status → Session) {r w : Went} → r ≡ w
-    → HasGone budget s bytes (w .taken) (w .stop) (w .read) (w .lost) (made (w .status)) → HasGone budget s bytes (r .taken) (r .stop) (r .read) (r .lost) (made (r .status))
-as-gone {budget} {s} {bytes} made e h = subst (λ (x : Went). HasGone budget s bytes (x .taken) (x .stop) (x .read) (x .lost) (made (x .status))) (sym e) h
+as-gone : {budget : ℕ} {m : Memory} {bytes : List ℕ} (made : Status → Memory) {r w : Went} → r ≡ w
+    → HasGone budget m bytes (w .taken) (w .stop) (w .read) (w .lost) (made (w .status))
+    → HasGone budget m bytes (r .taken) (r .stop) (r .read) (r .lost) (made (r .status))
+as-gone {budget} {m} {bytes} made e h = subst (λ (x : Went). HasGone budget m bytes (x .taken) (x .stop) (x .read) (x .lost) (made (x .status))) (sym e) h
 
 loop-holds : tie.Need-loop-holds Inv-loop μ-loop
-loop-holds c = going-start _ _ _ (c .before .pre .0)
+loop-holds c = (going-start _ _ _ (c .before .pre .0), refl)
 
 sub-read-record : tie.Need-sub-read-record Inv-loop μ-loop
-sub-read-record c = omega (arith, c .before .loop .inv .inside)
+sub-read-record c = omega (arith, c .before .before .loop .inv .0 .inside)
 
 part-read-record-start : tie.Need-part-read-record-start Inv-loop μ-loop
-part-read-record-start c = omega (arith, c .before .loop .inv .inside)
+part-read-record-start c = omega (arith, c .before .before .loop .inv .0 .inside)
 
 part-read-record-end : tie.Need-part-read-record-end Inv-loop μ-loop
 part-read-record-end c = search needs
@@ -80,8 +89,8 @@ read-record-requires c κs = search needs
 
 take-requires : tie.Need-take-requires Inv-loop μ-loop
 take-requires c κs =
-    let w = c .before .before .before .before .before .before .before in
-    (w .loop .inv .ready, w .before .before .pre .1)
+    let w = clocked (c .before) .before .before in
+    (w .loop .inv .0 .ready, entered w .pre .1)
 
 done-requires : tie.Need-done-requires Inv-loop μ-loop
 done-requires c κs = search needs
@@ -93,8 +102,8 @@ add-at : tie.Need-add-at Inv-loop μ-loop
 add-at c =
     let k = c .before .before in
     let w = turn k .before .loop in
-    let h = going-took (w .inv) _ _ (turn k .loop-test .taken) (turned k (c .enum-told .given .1)) in
-    omega (arith, h .inside, entry k .good .1 .1 .1 .1 .1 .1 .1 .0)
+    let h = going-took (w .inv .0) _ _ (turn k .loop-test .taken) (turned k (c .enum-told .given .1)) in
+    omega (arith, h .inside, entry k .good .1 .1 .1 .1 .0)
 
 add-taken : tie.Need-add-taken Inv-loop μ-loop
 add-taken c = omega (arith, turn (c .before .before) .loop-test .taken, entry (c .before .before) .fits .budget)
@@ -106,7 +115,7 @@ loop-again : tie.Need-loop-again Inv-loop μ-loop
 loop-again c =
     let k = c .before .before in
     let w = turn k .before .loop in
-    going-took (w .inv) _ _ (turn k .loop-test .taken) (turned k (c .enum-told .given .1))
+    (going-took (w .inv .0) _ _ (turn k .loop-test .taken) (turned k (c .enum-told .given .1)), tall k)
 
 enum-told-2 : tie.Need-enum-told-2 Inv-loop μ-loop
 enum-told-2 c = search needs
@@ -115,18 +124,22 @@ add-gone : tie.Need-add-gone Inv-loop μ-loop
 add-gone c =
     let k = c .before .before in
     let w = turn k .before .loop in
-    let h = going-ended (w .inv) _ _ (turn k .loop-test .taken) (turned k (c .enum-told2 .given .1)) in
-    omega (arith, h .within, entry k .good .1 .1 .1 .1 .1 .1 .1 .0)
+    let h = going-ended (w .inv .0) _ _ (turn k .loop-test .taken) (turned k (c .enum-told2 .given .1)) in
+    omega (arith, h .within, entry k .good .1 .1 .1 .1 .0)
 
 gone-requires : tie.Need-gone-requires Inv-loop μ-loop
 gone-requires c κs = search needs
 
+same-length : tie.Need-same-length Inv-loop μ-loop
+same-length c = let arm = c .before in tall (arm .before .before)
+
 returns : tie.Need-returns Inv-loop μ-loop
 returns c =
-    let k = c .before .before .before in
+    let arm = c .before in
+    let k = arm .before .before in
     let w = turn k .before .loop in
     as-gone (given k) (c .gone .ensures)
-    (going-ended (w .inv) _ _ (turn k .loop-test .taken) (turned k (c .before .enum-told2 .given .1)))
+    (going-ended (w .inv .0) _ _ (turn k .loop-test .taken) (turned k (arm .enum-told2 .given .1)))
 
 enum-known-did : tie.Need-enum-known-did Inv-loop μ-loop
 enum-known-did c = search needs
@@ -134,20 +147,27 @@ enum-known-did c = search needs
 gone-requires-2 : tie.Need-gone-requires-2 Inv-loop μ-loop
 gone-requires-2 c κs = search needs
 
+same-length-2 : tie.Need-same-length-2 Inv-loop μ-loop
+same-length-2 c = let arm = c .before .before in tall (arm .before .before)
+
 returns-2 : tie.Need-returns-2 Inv-loop μ-loop
 returns-2 c =
-    let k = c .before .before .before .before in
+    let arm = c .before .before in
+    let k = arm .before .before in
     let w = turn k .before .loop in
     as-gone (given k) (c .gone2 .ensures)
-    (going-refused (w .inv) _ _ _ (turn k .loop-test .taken) (turned k (c .before .before .did .given .1)))
+    (going-refused (w .inv .0) _ _ _ (turn k .loop-test .taken) (turned k (arm .did .given .1)))
 
 gone-requires-3 : tie.Need-gone-requires-3 Inv-loop μ-loop
 gone-requires-3 c κs = search needs
 
+same-length-3 : tie.Need-same-length-3 Inv-loop μ-loop
+same-length-3 c = search needs
+
 returns-3 : tie.Need-returns-3 Inv-loop μ-loop
 returns-3 c =
-    let l = c .before .before .loop in
-    as-gone (in-arrays (c .before .before .before .before .args .p) (l .held) (l .acts) (l .masks) (l .marks)) (c .gone3 .ensures) (going-done (l .inv) (c .before .loop-test .left))
+    let l = c .before .before in
+    as-gone (memory (entered l .args .p) (l .loop .rows)) (c .gone3 .ensures) (going-done (l .loop .inv .0) (c .before .loop-test .left))
 
 pub records-spec : {M : Type 1} → statement M
 records-spec =
@@ -170,9 +190,12 @@ records-spec =
     enum-told-2
     add-gone
     gone-requires
+    same-length
     returns
     enum-known-did
     gone-requires-2
+    same-length-2
     returns-2
     gone-requires-3
+    same-length-3
     returns-3)
