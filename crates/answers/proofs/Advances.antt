@@ -19,7 +19,7 @@ use Rattle.property.specs.declared.Property.{Property}
 use Rattle.matcher.specs.Sets.{cut-of}
 use Rattle.matcher.proofs.Words.{set-back, short-fits, start-short}
 use Rattle.rows.specs.Rows.{none}
-use Rattle.rows.proofs.Rows.{count-spanning, room-none}
+use Rattle.rows.proofs.Rows.{room-none}
 use Rattle.clock.specs.declared.Clock.{Clock}
 use Rattle.clock.specs.Time.{clock-of, stored-clock}
 use Rattle.held.specs.Held.{Closes}
@@ -70,7 +70,7 @@ module _ (m : Memory) (ready : Ready m) where
 
       is-ready : Ready (memory p (m .rows) (record { span = none; clock = stored-clock clock }))
       is-ready =
-          blind-ready _ (ready .ranged .formed) (room-none (m .rows) (m .status .span) (ready .room)) (ready .there) (count-spanning 0) b
+          blind-ready _ (ready .ranged .formed) (room-none (m .rows) (m .status .span) (ready .room)) (ready .there) refl b
           (subst (Fit p) (w .taken) (taken-fits m ready k (w .none)) .limit)
 
   module _ (output : Bool) (action stamp n : ℕ) (number : n ≡ first-of (given 3 (ltb last-action action)) (stamp-refusal (c .clock) stamp)) (zero : n ≡ 0) where
@@ -110,7 +110,7 @@ module _ (m : Memory) (ready : Ready m) where
         subst (λ (x : List (List ℕ)). Holds p (front-fresh p) x none 0) (sym e)
         (subst (λ (x : Lengths). Holds p (record { before = x; held = [] }) (with-cut (m .rows) none 0 0 (cut-of at-start)) none 0)
         (set-back p (ready .ranged .formed) at-start (start-short (meant p)))
-        (holds-one p (m .rows) none 0 (cut-of at-start) (ready .ranged .formed) (room-none (m .rows) (m .status .span) (ready .room)) (ready .there) (count-spanning 0)
+        (holds-one p (m .rows) none 0 (cut-of at-start) (ready .ranged .formed) (room-none (m .rows) (m .status .span) (ready .room)) (ready .there) refl
         (short-fits p (ready .ranged .formed) at-start (start-short (meant p)))))
 
     pub begun-leads : c .clock .is-blind ≡ true → beyond (meant p) (c .clock) stamp ≡ true → (clock : Clock) → clock ≡ stored-clock (ticked (c .clock) l false)

@@ -17,7 +17,6 @@ use Rattle.matcher.specs.Sets.{set-of, Fits, set-verdict}
 use Rattle.matcher.proofs.Words.{fits-short}
 use Rattle.rows.specs.declared.Span.{Span}
 use Rattle.rows.specs.Rows.{none, Room}
-use Rattle.rows.proofs.Rows.{count-spanning}
 use Rattle.clock.specs.declared.Clock.{Clock}
 use Rattle.clock.specs.Time.{clock-of, stored-clock}
 use Rattle.cuts.specs.Steps.{front-none}
@@ -41,7 +40,7 @@ module _ (p : Property) (good : property-refusal (meant p) ≡ 0) (c : Cut) (fit
   holds : Holds p (begun p c .cuts .front) after span 0
   holds =
       subst (λ (x : List (List ℕ)). Holds p (begun p c .cuts .front) x span 0) (sym puts)
-      (holds-one p rows span 0 c good room there (ap (λ (s : Span). s .count) spans ∙ count-spanning 0) fits)
+      (holds-one p rows span 0 c good room there (ap (λ (s : Span). s .count) spans) fits)
 
   one-cuts : held-in one ≡ begun p c .cuts
   one-cuts = λ i. record { clock = clock-of (clocks i); front = cond (clocks i .blind) (front-none p) (holds .front i) }

@@ -1,24 +1,24 @@
 -- How a run is kept: none of its lines, one line more in its place, and one that has none.
-use Prim.Native.Nat.{ℕ, suc, _+_, _≤_, _<_}
-use mathlib.Core.Path.{_≡_, refl, sym, ap, _∙_}
+use Prim.Native.Nat.{ℕ, _+_, _≤_, _<_}
+use mathlib.Core.Path.{_≡_, refl, ap, _∙_}
 use mathlib.Core.Bool.{Bool, false}
-use mathlib.Core.List.{List, [], _∷_, _++_}
+use mathlib.Core.List.{[], _∷_, _++_}
 use native.Mathlib.Numerals.{add-one}
 use native.Mathlib.Omega.{arith}
-use lib.ListN.{length, getD, set, take, length-append, length-set, replicate}
+use lib.ListN.{length, set, take, length-append, length-set, replicate}
 use lib.Seq.{length-take-le, getD-set-same, getD-set-other, getD-take}
 use Rattle.laws.specs.Places.{first}
 use Rattle.laws.proofs.Places.{first-snoc, first-same}
 use Rattle.meaning.specs.Words.{Line, Run}
 use Rattle.cuts.specs.Steps.{line-of}
 use Rattle.reasons.specs.Reasons.{most-lines}
-use Rattle.open_run.specs.Kept.{Lines, in-lines, line-at, Keeps}
+use Rattle.open_run.specs.Kept.{Places, in-lines, line-at, Keeps}
 
 -- The same places with another number of lines.
-abbrev pub with-count : Lines → ℕ → Lines
+abbrev pub with-count : Places → ℕ → Places
 with-count k n = in-lines (k .outputs) (k .actions) (k .stamps) n
 
-pub keeps-none : {run : Run} (k : Lines) → Keeps run k → Keeps [] (with-count k 0)
+pub keeps-none : {run : Run} (k : Places) → Keeps run k → Keeps [] (with-count k 0)
 unfolding first
 keeps-none k h =
     record {
@@ -29,7 +29,7 @@ keeps-none k h =
       kept = λ few. refl;
     }
 
-pub keeps-past : (run : Run) (k : Lines) (l : Line) → most-lines ≤ k .count → Keeps run k → Keeps (run ++ l ∷ []) (with-count k (k .count + 1))
+pub keeps-past : (run : Run) (k : Places) (l : Line) → most-lines ≤ k .count → Keeps run k → Keeps (run ++ l ∷ []) (with-count k (k .count + 1))
 keeps-past run k l past h =
     record {
       outputs-long = h .outputs-long;
@@ -39,8 +39,8 @@ keeps-past run k l past h =
       kept = λ few. let f : ⊥ = omega arith in absurd f;
     }
 
-module _ (run : Run) (k : Lines) (output : Bool) (action stamp : ℕ) (room : k .count < most-lines) (h : Keeps run k) where
-  abbrev put : Lines
+module _ (run : Run) (k : Places) (output : Bool) (action stamp : ℕ) (room : k .count < most-lines) (h : Keeps run k) where
+  abbrev put : Places
   put =
       in-lines (set (k .outputs) (k .count) output) (set (k .actions) (k .count) action) (set (k .stamps) (k .count) stamp) (k .count + 1)
 
@@ -74,11 +74,11 @@ module _ (run : Run) (k : Lines) (output : Bool) (action stamp : ℕ) (room : k 
       }
 
 -- What `why::explain` is given: the first so many of each array.
-abbrev pub cut : Lines → Lines
+abbrev pub cut : Places → Places
 cut k = in-lines (take (k .count) (k .outputs)) (take (k .count) (k .actions)) (take (k .count) (k .stamps)) (k .count)
 
 -- They are the run, line for line.
-pub handed : {run : Run} (k : Lines) → Keeps run k → k .count ≤ most-lines → first (line-at (cut k)) (length (cut k .stamps)) ≡ run
+pub handed : {run : Run} (k : Places) → Keeps run k → k .count ≤ most-lines → first (line-at (cut k)) (length (cut k .stamps)) ≡ run
 handed k h few =
     ap (first (line-at (cut k))) (length-take-le (k .count) (k .stamps) (omega (arith, few, h .stamps-long)))
     ∙ first-same (line-at (cut k)) (line-at k) (k .count)

@@ -17,7 +17,7 @@ use Rattle.cuts.specs.Steps.{line-of}
 use Rattle.session_record.specs.declared.Session.{Session}
 use Rattle.session_record.specs.Record.{latest-of}
 use Rattle.session_record.specs.Step.{fresh-of, stepped-through}
-use Rattle.session_record.specs.Lent.{Ready}
+use Rattle.session_record.specs.Lent.{Memory, record-in, Ready}
 use Rattle.reasons.specs.Reasons.{most-lines}
 use Rattle.walk.specs.declared.Did.{Did}
 use Rattle.walk.specs.declared.Did.the-variants.{Took, Ended, Not}
@@ -25,21 +25,21 @@ use Rattle.walk.specs.Walk.{One, one-read}
 use Rattle.open_run.specs.declared.Outcome.{Outcome}
 use Rattle.open_run.specs.declared.Outcome.the-variants.{Line as NextLine, Other}
 
--- What is kept: three arrays of places, and the number of lines.
-pub record Lines : Type 0 where
+-- What is kept: the places of lines, in three arrays, and the number of lines.
+pub record Places : Type 0 where
   pub outputs : List Bool
   pub actions : List ℕ
   pub stamps : List ℕ
   pub count : ℕ
 
-abbrev pub in-lines : List Bool → List ℕ → List ℕ → ℕ → Lines
+abbrev pub in-lines : List Bool → List ℕ → List ℕ → ℕ → Places
 in-lines outputs actions stamps count = record { outputs = outputs; actions = actions; stamps = stamps; count = count }
 
-abbrev pub line-at : Lines → ℕ → Line
+abbrev pub line-at : Places → ℕ → Line
 line-at k i = line-of (getD (k .outputs) i false) (getD (k .actions) i 0) (getD (k .stamps) i 0)
 
 -- A run is kept: all its lines are counted, and where there are no more than 256 they stand in their places, in order.
-pub record Keeps (run : Run) (k : Lines) : Type 0 where
+pub record Keeps (run : Run) (k : Places) : Type 0 where
   pub outputs-long : length (k .outputs) ≡ most-lines
   pub actions-long : length (k .actions) ≡ most-lines
   pub stamps-long : length (k .stamps) ≡ most-lines
@@ -51,7 +51,7 @@ abbrev pub seen : Property → List Call → Watch
 seen p calls = watched (meant p) fresh calls
 
 -- The session is what these calls have made of a fresh one, and the run that they have left open is kept.
-pub record Stands (p : Property) (calls : List Call) (s : Session) (k : Lines) : Type 0 where
+pub record Stands (p : Property) (calls : List Call) (s : Session) (k : Places) : Type 0 where
   pub session : s ≡ stepped-through (fresh-of p .session) calls
   pub keeps : Keeps (seen p calls .run) k
 
@@ -85,20 +85,20 @@ did-as (One.took c after) = Took
 
 -- A record that stands for x did this and leads here: what stood behind the calls before it stands behind its own too, and the next
 -- record can start.
-pub record Goes (s : Session) (k : Lines) (x : ReadAs) (did : Did) (after : Session) (k′ : Lines) : Type 0 where
-  pub did-is : did ≡ did-as (one-read s x)
-  pub stands : (calls : List Call) → Stands (s .property) calls s k → Stands (s .property) (calls ++ calls-as x) after k′
+pub record Goes (m : Memory) (k : Places) (x : ReadAs) (did : Did) (after : Memory) (k′ : Places) : Type 0 where
+  pub did-is : did ≡ did-as (one-read (record-in m) x)
+  pub stands : (calls : List Call) → Stands (m .property) calls (record-in m) k → Stands (m .property) (calls ++ calls-as x) (record-in after) k′
   pub ready : Ready after
   pub few : k′ .count ≤ k .count + 1
 
 -- The next record is read from the bytes that came, no more than a record has; the stamp before it is the session's latest.
-pub record Next (s : Session) (k : Lines) (did : Did) (after : Session) (k′ : Lines) : Type 0 where
+pub record Next (m : Memory) (k : Places) (did : Did) (after : Memory) (k′ : Places) : Type 0 where
   pub bytes : List ℕ
   pub few : length bytes ≤ record-size
-  pub goes : Goes s k (read-as (record-answer bytes (latest-of s))) did after k′
+  pub goes : Goes m k (read-as (record-answer bytes (latest-of (record-in m)))) did after k′
 
 -- The lines are those of the run that some calls on a fresh session have left open.
-pub record Open (p : Property) (k : Lines) : Type 0 where
+pub record Open (p : Property) (k : Places) : Type 0 where
   pub calls : List Call
-  pub is-open : seen p calls .is-blind ≡ false
+  pub is-open : seen p calls .clock .is-blind ≡ false
   pub keeps : Keeps (seen p calls .run) k

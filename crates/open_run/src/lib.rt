@@ -1,4 +1,4 @@
-// The run of a log that is open: its lines, kept in lent arrays beside those of the session.
+// The run of a log that is open: its lines, kept in lent arrays beside the rows of the session.
 ghost use Prim.Native.Nat.{_+_, _^_, _<_};
 ghost use mathlib.Core.Path.{_≡_};
 ghost use mathlib.Core.List.{[], _∷_, _++_};
@@ -6,16 +6,18 @@ ghost use Rattle.meaning.specs.Words.{Run};
 ghost use Rattle.trace_form.specs.ReadAs.{case-as};
 ghost use Rattle.table.specs.Table.{IsTable};
 ghost use Rattle.cuts.specs.Steps.{line-of};
-ghost use Rattle.session_record.specs.Lent.{in-arrays, Ready};
+ghost use Rattle.session_record.specs.Lent.{memory, Ready};
 ghost use Rattle.open_run.specs.Kept.{in-lines, Keeps, line-outcome, outcome-of, Goes};
 use held::Status;
 use limits::MOST_LINES;
 use property::Property;
 use record_form::RecordRead;
+use rows::Words;
+use table::Table;
 use walk::Did;
 
-// What a record did, and the numbers beside the arrays after it.
-pub struct Turn {
+// What a record did, and what stands beside the rows and the arrays after it.
+pub struct Noted {
     pub did: Did,
     pub status: Status,
     // The number of lines of the run that is open, 0 where none is.
@@ -80,38 +82,37 @@ fn comes_to(refusal: u64, blind: bool, count: usize, read: RecordRead) -> Outcom
 // A record as it was read.
 pub fn take(
     p: Property,
-    table: &[u8; 4257],
-    held: &mut [u64; 64],
-    acts: &mut [u8; 64],
-    masks: &mut [u64; 65],
-    marks: &mut [u64; 65],
+    table: &Table,
+    rows: &mut [Words],
     status: Status,
     outputs: &mut [bool; 256],
     actions: &mut [u8; 256],
     stamps: &mut [u64; 256],
     count: usize,
     read: RecordRead,
-) -> Turn
-    requires { ⌜ Ready (in-arrays p (now held) (now acts) (now masks) (now marks) status) × IsTable p (now table) × (count + 1 < 2 ^ 64) ⌝ }
-    ensures { λ r. ⌜ Goes (in-arrays p (now (held .entry)) (now (acts .entry)) (now (masks .entry)) (now (marks .entry)) status)
+) -> Noted
+    requires { ⌜ Ready (memory p (now rows) status) × IsTable p (now table) × (count + 1 < 2 ^ 64) ⌝ }
+    ensures { λ r. ⌜ Goes (memory p (now (rows .entry)) status)
         (in-lines (now (outputs .entry)) (now (actions .entry)) (now (stamps .entry)) count) (case-as read) (r .did)
-        (in-arrays p (now (held .exit)) (now (acts .exit)) (now (masks .exit)) (now (marks .exit)) (r .status))
+        (memory p (now (rows .exit)) (r .status))
         (in-lines (now (outputs .exit)) (now (actions .exit)) (now (stamps .exit)) (r .count)) ⌝ }
 {
-    let told = one_record::take(p, table, held, acts, masks, marks, status, read);
+    let told = one_record::take(p, table, rows, status, read);
     let answer = told.answer;
     let next = told.status;
-    let came = comes_to(answer.refusal, next.blind, count, read);
+    let clock = next.clock;
+    let came = comes_to(answer.refusal, clock.blind, count, read);
     match came {
         Outcome::Line(output, action, stamp) => {
             keep(outputs, actions, stamps, count, output, action, stamp);
-            Turn {
+            let longer = count + 1;
+            Noted {
                 did: Did::Took,
                 status: next,
-                count: count + 1,
+                count: longer,
             }
         }
-        Outcome::Other(did, after) => Turn {
+        Outcome::Other(did, after) => Noted {
             did: did,
             status: next,
             count: after,

@@ -60,16 +60,11 @@ module _ (rows : List (List ℕ)) (s : Span) (k i v : ℕ) where
         ap (λ (l : List ℕ). getD l (place s j) 0) row-here ∙ getD-set-other (getD rows k []) (place s i) (place s j) v 0 d
 
 -- Spans: so many from the first place on,
-pub count-spanning : (n : ℕ) → spanning n .count ≡ n
-unfolding spanning
-count-spanning n = refl
-
 pub word-spanning : (rows : List (List ℕ)) (n k i : ℕ) → i ≤ 64 → word rows (spanning n) k i ≡ getD (getD rows k []) i 0
 unfolding word place
 word-spanning rows n k i h = refl
 
 pub room-none : (rows : List (List ℕ)) (s : Span) → Room rows s → Room rows none
-unfolding spanning
 room-none rows s r = record { long = r .long; shared = r .shared; few = omega arith }
 
 -- and one more than before.

@@ -7,7 +7,7 @@ use Rattle.laws.specs.Filled.{Filled}
 use Rattle.rows.specs.declared.Span.{Span}
 
 -- So many open inputs, from the first place on; none of them; and one more.
-unfoldable pub spanning : ℕ → Span
+abbrev pub spanning : ℕ → Span
 spanning n = record { count = n }
 
 abbrev pub none : Span

@@ -141,7 +141,7 @@ module _ (p : Property) (good : property-refusal (meant p) ≡ 0) where
 
     -- and refusal 10 does not name it.
     pub in-range : out-of-range (record-of p c) ≡ false
-    unfolding out-of-range spanning
+    unfolding out-of-range
     in-range =
         neither
         (neither

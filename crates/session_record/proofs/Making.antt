@@ -94,7 +94,7 @@ module _ (m : Memory) (ready : Ready m) where
 
   -- and while blind none.
   pub packed-blind : m .status .clock .blind ≡ true → packed-of (m .property) rows none 0 (m .status .clock) ≡ record-in m
-  unfolding first cut-of mask-to spanning
+  unfolding first cut-of mask-to
   packed-blind b = ap (λ (x : Bool). record-of (m .property) (record { clock = held-in m .clock; front = cond x (front-none (m .property)) (front-of rows s 0) })) (sym b)
 
 -- The record of a fresh session, and that of zeros.

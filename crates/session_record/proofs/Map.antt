@@ -20,7 +20,7 @@ use Rattle.matcher.specs.Sets.{set-of, cut-of, Fits, Short}
 use Rattle.matcher.proofs.Words.{set-back, short-fits}
 use Rattle.rows.specs.declared.Span.{Span}
 use Rattle.rows.specs.Rows.{spanning, word}
-use Rattle.rows.proofs.Rows.{count-spanning, word-spanning}
+use Rattle.rows.proofs.Rows.{word-spanning}
 use Rattle.held.specs.Held.{line-at}
 use Rattle.cuts.specs.Fronts.{cut-at, held-at, front-of, number-of, sets-of, stored-held, stored-acts, stored-row}
 use Rattle.session_record.proofs.Each.{all-at}
@@ -94,6 +94,5 @@ module _ (p : Property) (good : property-refusal (meant p) ≡ 0) (f : Front Len
   front-back =
       ap₂ (λ (s : Lengths) (l : List (Held Lengths)). record { before = s; held = l })
       (set-stored zero (omega arith))
-      (ap (first (held-at (stored-rows f) own 0)) (count-spanning (length (f .held)))
-      ∙ first-same _ _ (length (f .held)) (λ i h. ap₂ (λ (l : Line) (s : Lengths). record { line = l; after = s }) (line-stored i h) (set-stored (suc i) (omega arith)))
+      (first-same _ _ (length (f .held)) (λ i h. ap₂ (λ (l : Line) (s : Lengths). record { line = l; after = s }) (line-stored i h) (set-stored (suc i) (omega arith)))
       ∙ first-whole (f .held) (nothing none-of))

@@ -9,6 +9,7 @@ use lib.Dec.{ltb}
 use borrow.Author.Tests.{lt-ltb, le-ltb}
 use Rattle.meaning.specs.Node.{Verdict, verdict-number}
 use Rattle.meaning.specs.Matcher.{Lengths}
+use Rattle.meaning.specs.Numbers.{property-refusal}
 use Rattle.meaning.specs.Step.{Front, Cuts}
 use Rattle.property.specs.Meant.{meant}
 use Rattle.property.specs.declared.Property.{Property}

@@ -11,7 +11,7 @@ use Rattle.trace_form.specs.ReadAs.{ReadAs, read-as}
 use Rattle.session_record.specs.declared.Session.{Session}
 use Rattle.session_record.specs.declared.Stepped.{Stepped}
 use Rattle.session_record.specs.Record.{latest-of, out-of-range}
-use Rattle.session_record.specs.Step.{refusal-of, stepped-of}
+use Rattle.session_record.specs.Step.{refusal-of}
 use Rattle.session_record.specs.Lent.{tidied}
 use Rattle.session_record.proofs.Steps.{answer-refusal}
 use Rattle.session_record.proofs.Ready.{tidied-refusal, tidied-taken}

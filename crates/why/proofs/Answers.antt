@@ -19,7 +19,7 @@ use Rattle.property.specs.declared.Property.{Property}
 use Rattle.judged_rest.specs.declared.Reason.{Reason}
 use Rattle.judged_rest.specs.Lent.{Lines, stamp-at, line-in, count, run-of}
 use Rattle.first_order.specs.Search.{Pair}
-use Rattle.why.specs.Why.{shorter, size-refusal, uneven, why-refusal, Told, ReasonBy, IsReason}
+use Rattle.why.specs.Why.{shorter, size-refusal, uneven, why-refusal, TellsWhy, ReasonBy, IsReason}
 use Rattle.judged_rest.specs.Judged.{Judged, refused-by, judged}
 use Rattle.first_order.specs.Search.{start, Sized}
 use Rattle.why.proofs.Whole.{AllTaken, all-taken}
@@ -109,7 +109,7 @@ module _ (p : Property) (ls : Lines) (l l2 : Pair) where
           by-short h x q = refused-so 9 (past-many ∙ ap (given 9) h) (λ z. omega arith) x q
 
           pub by-told : (m m2 : Pair) → count ls ≤ length (l .numbers) → count ls ≤ length (l .moments) → count ls ≤ length (l2 .numbers) → count ls ≤ length (l2 .moments)
-              → Told (meant p) (run-of ls) r l l2 m m2 → IsReason p ls r l l2 m m2
+              → TellsWhy (meant p) (run-of ls) r l l2 m m2 → IsReason p ls r l l2 m m2
           unfolding IsReason
           by-told m m2 a b c d told =
               subst (λ (k : ℕ). ReasonBy k (meant p) (run-of ls) r l l2 m m2)

@@ -32,7 +32,7 @@ use Rattle.matcher.proofs.Words.{set-back, start-short}
 use Rattle.judged_rest.specs.declared.Reason.{Reason}
 use Rattle.judged_rest.specs.Lent.{Lines, is-output, line-in, count, run-of}
 use Rattle.first_order.specs.Search.{Pair}
-use Rattle.why.specs.Why.{Shows, ShowsBy, Told, over}
+use Rattle.why.specs.Why.{Shows, ShowsBy, TellsWhy, over}
 use Rattle.judged_rest.specs.Judged.{waits, judged, Judged}
 use Rattle.first_order.specs.Search.{kind-in, reaches, Sized, start, place, number-at, Found, Written}
 use Rattle.order_moments.specs.Moments.{moment-at}
@@ -180,7 +180,7 @@ module _ (p : Property) (good : property-refusal (meant p) ≡ 0) (ls : Lines) (
     is-told : r ≡ says (verdict-number v) (t .line)
     is-told = judged-so ∙ told-is
 
-    answer : ShowsBy v (meant p) (run-of ls) l l2 m m2 → Told (meant p) (run-of ls) r l l2 m m2
+    answer : ShowsBy v (meant p) (run-of ls) l l2 m m2 → TellsWhy (meant p) (run-of ls) r l l2 m m2
     answer s =
         record {
           taken = ap (λ (x : Reason). x .refusal) is-told;
@@ -192,7 +192,7 @@ module _ (p : Property) (good : property-refusal (meant p) ≡ 0) (ls : Lines) (
         }
 
     pub answer-suspect : r .verdict ≡ 1 → Written p ls (ltb 0 (r .verdict)) l m → count ls ≤ length (l2 .numbers) → count ls ≤ length (l2 .moments) → Written p ls false l2 m2
-        → Told (meant p) (run-of ls) r l l2 m m2
+        → TellsWhy (meant p) (run-of ls) r l l2 m m2
     answer-suspect one w ln2 lm2 w2 = answer (go v refl (sym (ap (λ (x : Reason). x .verdict) is-told) ∙ one))
       where
         go : (u : Verdict) → v ≡ u → verdict-number u ≡ 1 → ShowsBy u (meant p) (run-of ls) l l2 m m2
@@ -205,7 +205,7 @@ module _ (p : Property) (good : property-refusal (meant p) ≡ 0) (ls : Lines) (
           shows false (λ (o : List Line). ¬ Breaks (meant p) o) (first-spares (reach false 1 (ap verdict-number e) refl)) l2 m2 ln2 lm2 w2,
         )
 
-    pub answer-other : (r .verdict ≡ 1 → ⊥) → Written p ls (ltb 0 (r .verdict)) l m → m2 ≡ l2 → Told (meant p) (run-of ls) r l l2 m m2
+    pub answer-other : (r .verdict ≡ 1 → ⊥) → Written p ls (ltb 0 (r .verdict)) l m → m2 ≡ l2 → TellsWhy (meant p) (run-of ls) r l l2 m m2
     answer-other not-one w same = answer (go v refl (ap (λ (x : Reason). x .verdict) is-told) exact)
       where
         go : (u : Verdict) → v ≡ u → r .verdict ≡ verdict-number u → IsVerdict (meant p) (run-of ls) u → ShowsBy u (meant p) (run-of ls) l l2 m m2

@@ -13,12 +13,13 @@ use Rattle.meaning.specs.Words.{Line, Run}
 use Rattle.meaning.specs.Words
 use Rattle.meaning.specs.Node.{Breaks, Verdict, verdict-number, IsVerdict}
 use Rattle.meaning.specs.Numbers.{first-of, action-above, property-refusal}
-use Rattle.meaning.specs.Calls.{Call, Watch, fresh, refusal, taken, stamp-refusal}
+use Rattle.meaning.specs.Calls.{Call, Clock, fresh-clock, ticked, Watch, fresh, refusal, taken, stamp-refusal}
 use Rattle.meaning.specs.Calls
 use Rattle.meaning.specs.Matcher.{Lengths, at-start}
 use Rattle.meaning.specs.Step.{Front, Cuts, lengths, last-set, front-with, fresh-front, front-verdict, told}
 use Rattle.meaning.proofs.Refusals.{first-of-none, none-first, unless-taken, unless-kept}
 use Rattle.meaning.proofs.Sets.{Reading}
+use Rattle.meaning.proofs.Clocks.{open-watch, open-cuts}
 use Rattle.meaning.proofs.Lengths.{lengths-reading}
 use Rattle.meaning.proofs.Exact.{Fits, fresh-fits, front-fits, front-verdict-exact}
 use Rattle.meaning.proofs.Calls.{Agrees, fresh-agrees, refusal-agrees, taken-agrees, not-refused-stamp}
@@ -36,10 +37,6 @@ use Rattle.judged_rest.specs.Judged
 use Rattle.why.proofs.Left.{either-way}
 use Rattle.why.proofs.Whole.{taken-lines, lines-snoc, taken-snoc}
 
--- a session over cuts whose run is open
-abbrev pub open-cuts : Front Lengths → ℕ → Cuts Lengths
-open-cuts f t = record { is-blind = false; front = f; latest = t }
-
 abbrev pub says : ℕ → ℕ → Reason
 says v line = record { refusal = 0; verdict = v; line = line }
 
@@ -55,42 +52,43 @@ told-as v w line k = go (eqb v w) (eqb-true v w)
     go false e = refl
 
 module _ (p : Property) where
-  -- a line that waits, taken into an open run
-  pub line-taken : (f : Front Lengths) (t v line : ℕ) (l : Line) (k : ℕ) → refusal-by p (open-cuts f t) (Call.line l) ≡ 0
-      → judged-line p l k (record { cuts = open-cuts f t; told = says v line })
-      ≡ record {
-        cuts = open-cuts (front-with (meant p) (lengths (meant p)) f l) (l .stamp);
-        told =
-            says (verdict-number (front-verdict (meant p) (lengths (meant p)) (front-with (meant p) (lengths (meant p)) f l)))
-            (line-then v (verdict-number (front-verdict (meant p) (lengths (meant p)) (front-with (meant p) (lengths (meant p)) f l))) line k);
-      }
-  line-taken f t v line l k e =
-      (λ i.
-      record {
-        cuts = unless-taken (refusal-by p (open-cuts f t) (Call.line l)) (taken-by p (open-cuts f t) (Call.line l)) (open-cuts f t) e i;
-        told =
-            let a : Calls.Answer =
-            unless-taken (refusal-by p (open-cuts f t) (Call.line l)) (told-by p (open-cuts f t) (Call.line l)) (Calls.refused (refusal-by p (open-cuts f t) (Call.line l))) e i in
-            Judged.told-by (a .refusal) (says v line) (a .verdict) k;
-      })
-      ∙ ap (λ (r : Reason). record { cuts = open-cuts (front-with (meant p) (lengths (meant p)) f l) (l .stamp); told = r })
-      (told-as v (verdict-number (front-verdict (meant p) (lengths (meant p)) (front-with (meant p) (lengths (meant p)) f l))) line k)
+  module _ (f : Front Lengths) (clock : Clock) (v line : ℕ) (l : Line) (k : ℕ) where
+    abbrev c : Cuts Lengths
+    c = open-cuts f clock
 
-  -- and one that is not taken
-  pub line-refused : (f : Front Lengths) (t v line : ℕ) (l : Line) (k n : ℕ) → refusal-by p (open-cuts f t) (Call.line l) ≡ suc n
-      → judged-line p l k (record { cuts = open-cuts f t; told = says v line }) .told ≡ refused-by (suc n)
-  line-refused f t v line l k n e =
-      ap (λ (a : Calls.Answer). Judged.told-by (a .refusal) (says v line) (a .verdict) k)
-      (unless-kept (refusal-by p (open-cuts f t) (Call.line l)) (told-by p (open-cuts f t) (Call.line l)) (Calls.refused (refusal-by p (open-cuts f t) (Call.line l)))
-      (λ z. let w : suc n ≡ 0 = sym e ∙ z in omega arith)
-      ∙ ap Calls.refused e)
+    abbrev then : Front Lengths
+    then = front-with (meant p) (lengths (meant p)) f l
+
+    abbrev w : ℕ
+    w = verdict-number (front-verdict (meant p) (lengths (meant p)) then)
+
+    -- a line that waits, taken into an open run
+    pub line-taken : refusal-by p (open-cuts f clock) (Call.line l) ≡ 0
+        → judged-line p l k (record { cuts = open-cuts f clock; told = says v line })
+        ≡ record { cuts = open-cuts then (ticked clock l false); told = says w (line-then v w line k) }
+    line-taken e =
+        (λ i.
+        record {
+          cuts = unless-taken (refusal-by p c (Call.line l)) (taken-by p c (Call.line l)) c e i;
+          told =
+              let a : Calls.Answer =
+              unless-taken (refusal-by p c (Call.line l)) (told-by p c (Call.line l)) (Calls.refused (refusal-by p c (Call.line l))) e i in
+              Judged.told-by (a .refusal) (says v line) (a .verdict) k;
+        })
+        ∙ ap (λ (r : Reason). record { cuts = open-cuts then (ticked clock l false); told = r }) (told-as v w line k)
+
+    -- and one that is not taken
+    pub line-refused : (n : ℕ) → refusal-by p (open-cuts f clock) (Call.line l) ≡ suc n
+        → judged-line p l k (record { cuts = open-cuts f clock; told = says v line }) .told ≡ refused-by (suc n)
+    line-refused n e =
+        ap (λ (a : Calls.Answer). Judged.told-by (a .refusal) (says v line) (a .verdict) k)
+        (unless-kept (refusal-by p c (Call.line l)) (told-by p c (Call.line l)) (Calls.refused (refusal-by p c (Call.line l)))
+        (λ z. let w : suc n ≡ 0 = sym e ∙ z in omega arith)
+        ∙ ap Calls.refused e)
 
   module _ (good : property-refusal (meant p) ≡ 0) (ls : Lines) where
     abbrev R : Reading (meant p) (Breaks (meant p))
     R = lengths-reading (meant p) good
-
-    L : ℕ → Line
-    L = line-in ls
 
     abbrev run : ℕ → Run
     run k = first (line-in ls) k
@@ -100,13 +98,13 @@ module _ (p : Property) where
 
     pub record Taken (k : ℕ) : Type 0 where
       pub front : Front Lengths
-      pub latest : ℕ
+      pub clock : Clock
       pub line : ℕ
-      pub fit : Fits R latest (run k) front
-      pub agrees : Agrees R (record { is-blind = false; run = run k; latest = latest }) (open-cuts front latest)
+      pub fit : Fits R (clock .latest) (run k) front
+      pub agrees : Agrees R (open-watch (run k) clock) (open-cuts front clock)
       pub none : lines-refusal (meant p) fresh (run k) ≡ 0
-      pub watch : taken-lines (meant p) fresh (run k) ≡ record { is-blind = false; run = run k; latest = latest }
-      pub is : judged p ls start k ≡ record { cuts = open-cuts front latest; told = says (verdict-number (verdict front)) line }
+      pub watch : taken-lines (meant p) fresh (run k) ≡ open-watch (run k) clock
+      pub is : judged p ls start k ≡ record { cuts = open-cuts front clock; told = says (verdict-number (verdict front)) line }
       pub reached : ReachedAt (meant p) (run k) line
       pub within : line ≤ k
 
@@ -126,7 +124,7 @@ module _ (p : Property) where
     nothing-yet =
         record {
           front = fresh-front (meant p) (lengths (meant p));
-          latest = 0;
+          clock = fresh-clock;
           line = 0;
           fit = fresh-fits R 0;
           agrees = fresh-agrees R;
@@ -136,7 +134,7 @@ module _ (p : Property) where
               ap
               (λ (s : Lengths).
               record {
-                cuts = open-cuts (record { before = s; held = [] }) 0;
+                cuts = open-cuts (record { before = s; held = [] }) fresh-clock;
                 told = says (verdict-number (front-verdict (meant p) (lengths (meant p)) (record { before = s; held = [] }))) 0;
               })
               (set-back p good at-start (start-short (meant p)));
@@ -161,87 +159,105 @@ module _ (p : Property) where
         (λ z. let w : suc n ≡ 0 = sym (ap (λ (r : Reason). r .refusal) e) ∙ z in omega arith))
         ∙ e
 
-    next : (k : ℕ) → Taken k → Sofar (suc k)
-    next k t = go (refusal (meant p) (record { is-blind = false; run = run k; latest = t .latest }) (Call.line l)) refl
-      where
-        l : Line
-        l = line-in ls k
+    module _ (k : ℕ) (t : Taken k) where
+      abbrev l : Line
+      l = line-in ls k
 
-        f′ : Front Lengths
-        f′ = front-with (meant p) (lengths (meant p)) (t .front) (line-in ls k)
+      abbrev here : Watch
+      here = open-watch (run k) (t .clock)
 
-        number : lines-refusal (meant p) fresh (run (suc k)) ≡ refusal (meant p) (record { is-blind = false; run = run k; latest = t .latest }) (Call.line (line-in ls k))
-        number =
-            refusal-next k
-            ∙ ap (λ (n : ℕ). first-of n (refusal (meant p) (taken-lines (meant p) fresh (run k)) (Call.line (line-in ls k)))) (t .none)
-            ∙ ap (λ (w : Watch). refusal (meant p) w (Call.line (line-in ls k))) (t .watch)
+      abbrev later : Clock
+      later = ticked (t .clock) l false
 
-        by-cuts : refusal-by p (open-cuts (t .front) (t .latest)) (Call.line (line-in ls k))
-            ≡ refusal (meant p) (record { is-blind = false; run = run k; latest = t .latest }) (Call.line (line-in ls k))
-        by-cuts = refusal-agrees R (t .agrees) (Call.line (line-in ls k))
+      abbrev f′ : Front Lengths
+      f′ = front-with (meant p) (lengths (meant p)) (t .front) l
 
-        go : (n : ℕ) → refusal (meant p) (record { is-blind = false; run = run k; latest = t .latest }) (Call.line (line-in ls k)) ≡ n → Sofar (suc k)
-        go (suc n) e =
-            stopped n (number ∙ e)
-            (ap (λ (j : Judged). j .told) (goes-on k _ (t .is) refl)
-            ∙ line-refused (t .front) (t .latest) (verdict-number (verdict (t .front))) (t .line) (line-in ls k) k n (by-cuts ∙ e))
-        go zero e =
-            all-of
-            (record {
+      abbrev v : ℕ
+      v = verdict-number (verdict (t .front))
+
+      abbrev v′ : ℕ
+      v′ = verdict-number (verdict f′)
+
+      number : lines-refusal (meant p) fresh (run (suc k)) ≡ refusal (meant p) here (Call.line l)
+      number =
+          refusal-next k
+          ∙ ap (λ (n : ℕ). first-of n (refusal (meant p) (taken-lines (meant p) fresh (run k)) (Call.line l))) (t .none)
+          ∙ ap (λ (w : Watch). refusal (meant p) w (Call.line l)) (t .watch)
+
+      by-cuts : refusal-by p (open-cuts (t .front) (t .clock)) (Call.line l) ≡ refusal (meant p) here (Call.line l)
+      by-cuts = refusal-agrees R (t .agrees) (Call.line l)
+
+      next-stopped : (n : ℕ) → refusal (meant p) here (Call.line l) ≡ suc n → Sofar (suc k)
+      next-stopped n e =
+          stopped n (number ∙ e)
+          (ap (λ (j : Judged). j .told) (goes-on k _ (t .is) refl) ∙ line-refused (t .front) (t .clock) v (t .line) l k n (by-cuts ∙ e))
+
+      module _ (e : refusal (meant p) here (Call.line l) ≡ 0) where
+        in-order : t .clock .latest ≤ l .stamp
+        in-order =
+            not-refused-stamp (t .clock) (l .stamp)
+            (first-of-none (stamp-refusal (t .clock) (l .stamp)) (none-first 2 (action-above (l .action)) e .1) .0)
+
+        longer : Fits R (l .stamp) (run k ++ l ∷ []) f′
+        longer = front-fits R (t .clock .latest) (run k) (t .front) (t .fit) l in-order
+
+        within : t .line ≤ k
+        within = t .within
+
+        low : (b : Bool) → cond b (t .line) (suc k) ≤ suc k
+        low true = omega (arith, within)
+        low false = omega arith
+
+        exact : IsVerdict (meant p) (run k) (verdict (t .front))
+        exact = front-verdict-exact R (run k) (t .fit)
+
+        exact′ : IsVerdict (meant p) (run k ++ l ∷ []) (verdict f′)
+        exact′ = front-verdict-exact R (run k ++ l ∷ []) longer
+
+        reach : (b : Bool) → (b ≡ true → v ≡ v′) → (b ≡ false → v ≡ v′ → ⊥) → ReachedAt (meant p) (run k ++ l ∷ []) (cond b (t .line) (suc k))
+        reach true y n =
+            reached-same (meant p) good (run k) l (longer .rising) (t .line) (omega (arith, within, length-first (line-in ls) k)) (t .reached)
+            (subst (λ (u : Verdict). IsVerdict (meant p) (run k ++ l ∷ []) u)
+            (sym
+            (one-verdict (meant p) good (run k) (t .fit .rising) (t .reached .verdict) (verdict (t .front)) (t .reached .whole) exact
+            ∙ same-number (verdict (t .front)) (verdict f′) (y refl)))
+            exact′)
+        reach false y n =
+            subst (ReachedAt (meant p) (run k ++ l ∷ [])) (ap suc (length-first (line-in ls) k))
+            (reached-new (meant p) good (run k) l (longer .rising) (verdict (t .front)) (verdict f′) exact exact′ (n refl))
+
+        next-taken : Taken (suc k)
+        next-taken =
+            record {
               front = f′;
-              latest = line-in ls k .stamp;
-              line = line-then (verdict-number (verdict (t .front))) (verdict-number (verdict f′)) (t .line) k;
-              fit = fit′;
+              clock = later;
+              line = line-then v v′ (t .line) k;
+              fit = subst (λ (r : Run). Fits R (l .stamp) r f′) (sym (run-next k)) longer;
               agrees =
-                  subst (λ (r : Run). Agrees R (record { is-blind = false; run = r; latest = line-in ls k .stamp }) (open-cuts f′ (line-in ls k .stamp))) (sym (run-next k))
-                  (taken-agrees R (t .agrees) (Call.line (line-in ls k)) e);
+                  subst (λ (r : Run). Agrees R (open-watch r later) (open-cuts f′ later)) (sym (run-next k)) (taken-agrees R (t .agrees) (Call.line l) e);
               none = number ∙ e;
               watch =
-                  ap (taken-lines (meant p) fresh) (run-next k) ∙ taken-snoc (meant p) fresh (run k) (line-in ls k)
-                  ∙ ap (λ (w : Watch). taken (meant p) w (Call.line (line-in ls k))) (t .watch)
-                  ∙ (λ i. record { is-blind = false; run = sym (run-next k) i; latest = line-in ls k .stamp });
-              is =
-                  goes-on k _ (t .is) refl
-                  ∙ line-taken (t .front) (t .latest) (verdict-number (verdict (t .front))) (t .line) (line-in ls k) k (by-cuts ∙ e);
-              reached = subst (λ (r : Run). ReachedAt (meant p) r (line-then (verdict-number (verdict (t .front))) (verdict-number (verdict f′)) (t .line) k)) (sym (run-next k)) (reach _ (eqb-true _ _) (eqb-false _ _));
-              within = low (eqb (verdict-number (verdict (t .front))) (verdict-number (verdict f′)));
-            })
-          where
-            later : t .latest ≤ line-in ls k .stamp
-            later =
-                not-refused-stamp (t .latest) (line-in ls k .stamp)
-                (first-of-none (stamp-refusal (t .latest) (line-in ls k .stamp)) (none-first 2 (action-above (line-in ls k .action)) e .1) .0)
+                  ap (taken-lines (meant p) fresh) (run-next k) ∙ taken-snoc (meant p) fresh (run k) l
+                  ∙ ap (λ (w : Watch). taken (meant p) w (Call.line l)) (t .watch)
+                  ∙ (λ i. open-watch (sym (run-next k) i) later);
+              is = goes-on k _ (t .is) refl ∙ line-taken (t .front) (t .clock) v (t .line) l k (by-cuts ∙ e);
+              reached =
+                  subst (λ (r : Run). ReachedAt (meant p) r (line-then v v′ (t .line) k)) (sym (run-next k))
+                  (reach (eqb v v′) (eqb-true v v′) (eqb-false v v′));
+              within = low (eqb v v′);
+            }
 
-            longer : Fits R (line-in ls k .stamp) (run k ++ line-in ls k ∷ []) f′
-            longer = front-fits R (t .latest) (run k) (t .front) (t .fit) (line-in ls k) later
-
-            fit′ : Fits R (line-in ls k .stamp) (run (suc k)) f′
-            fit′ = subst (λ (r : Run). Fits R (line-in ls k .stamp) r f′) (sym (run-next k)) longer
-
-            low : (b : Bool) → cond b (t .line) (suc k) ≤ suc k
-            low true = let h : t .line ≤ k = t .within in omega arith
-            low false = omega arith
-
-            reach : (b : Bool) → (b ≡ true → verdict-number (verdict (t .front)) ≡ verdict-number (verdict f′))
-                → (b ≡ false → verdict-number (verdict (t .front)) ≡ verdict-number (verdict f′) → ⊥)
-                → ReachedAt (meant p) (run k ++ line-in ls k ∷ []) (cond b (t .line) (suc k))
-            reach true y n =
-                reached-same (meant p) good (run k) (line-in ls k) (longer .rising) (t .line) (let h : t .line ≤ k = t .within in omega (arith, length-first (line-in ls) k)) (t .reached)
-                (subst (λ (v : Verdict). IsVerdict (meant p) (run k ++ line-in ls k ∷ []) v)
-                (sym
-                (one-verdict (meant p) good (run k) (t .fit .rising) (t .reached .verdict) (verdict (t .front)) (t .reached .whole) (front-verdict-exact R (run k) (t .fit))
-                ∙ same-number (verdict (t .front)) (verdict f′) (y refl)))
-                (front-verdict-exact R (run k ++ line-in ls k ∷ []) longer))
-            reach false y n =
-                subst (ReachedAt (meant p) (run k ++ line-in ls k ∷ [])) (ap suc (length-first (line-in ls) k))
-                (reached-new (meant p) good (run k) (line-in ls k) (longer .rising) (verdict (t .front)) (verdict f′) (front-verdict-exact R (run k) (t .fit))
-                (front-verdict-exact R (run k ++ line-in ls k ∷ []) longer) (n refl))
+      next : (n : ℕ) → refusal (meant p) here (Call.line l) ≡ n → Sofar (suc k)
+      next (suc n) e = next-stopped n e
+      next zero e = all-of (next-taken e)
 
     pub sofar : (k : ℕ) → Sofar k
     sofar zero = all-of nothing-yet
     sofar (suc k) = on (sofar k)
       where
         on : Sofar k → Sofar (suc k)
-        on (all-of t) = next k t
+        on (all-of t) = next k t _ refl
         on (stopped n e q) =
-            stopped n (refusal-next k ∙ ap (λ (m : ℕ). first-of m (refusal (meant p) (taken-lines (meant p) fresh (run k)) (Call.line (line-in ls k)))) e) (stays-stopped k n q)
+            stopped n
+            (refusal-next k ∙ ap (λ (m : ℕ). first-of m (refusal (meant p) (taken-lines (meant p) fresh (run k)) (Call.line (line-in ls k)))) e)
+            (stays-stopped k n q)

@@ -17,10 +17,11 @@ use Rattle.meaning.specs.Words.{Line, StampsFrom}
 use Rattle.meaning.specs.Words
 use Rattle.meaning.specs.Node.{ins, Breaks, Verdict, verdict-number, VerdictFor}
 use Rattle.meaning.specs.Numbers.{given, first-of, action-above, property-refusal}
-use Rattle.meaning.specs.Calls.{Call, is-open, count-open, open-at, stamp-refusal}
+use Rattle.meaning.specs.Calls.{Call, Clock, fresh-clock, ticked, is-open, count-open, open-at, stamp-refusal}
 use Rattle.meaning.specs.Matcher.{Lengths, State, is-broken}
 use Rattle.meaning.specs.Step.{Front, lengths, last-set, front-with, front-verdict}
 use Rattle.meaning.proofs.Lists.{All, done, also, all-append, ins-append, from-longer}
+use Rattle.meaning.proofs.Clocks.{open-cuts}
 use Rattle.meaning.proofs.Sets.{Reading, along}
 use Rattle.meaning.proofs.Matching.{state-matcher}
 use Rattle.meaning.proofs.Lengths.{lengths-reading}
@@ -34,7 +35,7 @@ use Rattle.judged_rest.specs.Lent.{Lines, is-output, line-in, count}
 use Rattle.judged_rest.specs.Judged.{Judged, waits, judged-line, turned, judged}
 use Rattle.why.proofs.Left.{left, left-next}
 use Rattle.why.proofs.Whole.{AllTaken}
-use Rattle.why.proofs.Judgement.{open-cuts, says, line-then, line-taken}
+use Rattle.why.proofs.Judgement.{says, line-then, line-taken}
 
 -- ---- stamps that never fall, by places
 
@@ -42,7 +43,7 @@ from-on : (L : ℕ → Line) (t n : ℕ) → StampsFrom t (first L n) → (j : �
 unfolding first
 from-on L t zero f j h = let z : ⊥ = omega arith in absurd z
 from-on L t (suc n) f zero h = f .0
-from-on L t (suc n) f (suc j) h = let a : L 0 .stamp ≤ L (suc j) .stamp = from-on (λ i. L (suc i)) (L 0 .stamp) n (f .1) j (omega arith) in let c : t ≤ L 0 .stamp = f .0 in omega arith
+from-on L t (suc n) f (suc j) h = omega (arith, from-on (λ i. L (suc i)) (L 0 .stamp) n (f .1) j (omega arith), f .0)
 
 pub rising : (L : ℕ → Line) (t n : ℕ) → StampsFrom t (first L n) → (i j : ℕ) → i ≤ j → j < n → L i .stamp ≤ L j .stamp
 unfolding first
@@ -70,7 +71,9 @@ module _ (L : ℕ → Line) (w : ℕ → Bool) where
   some-rise n f (suc k) h = one (w k) (some-rise n f k (omega arith))
     where
       one : (b : Bool) → StampsFrom 0 (left w L k) → StampsFrom 0 (left w L k ++ cond b (L k ∷ []) [])
-      one true r = from-longer 0 (L k .stamp) (left w L k) (L k) r (some-low k (L k .stamp) (λ i l. rising L 0 n f i k (omega arith) (omega arith))) (omega arith) (omega arith)
+      one true r =
+          from-longer 0 (L k .stamp) (left w L k) (L k) r (some-low k (L k .stamp) (λ i l. rising L 0 n f i k (omega arith) (omega arith)))
+          (omega arith) (omega arith)
       one false r = subst (StampsFrom 0) (sym (append-nil (left w L k))) r
 
   -- of some of the lines no more are open than of all
@@ -99,122 +102,121 @@ module _ (L : ℕ → Line) (w : ℕ → Bool) where
 none-holds : (a : Bool) (s : ℕ) (t : Bool) → a ≡ false → s ≡ 0 → t ≡ false → first-of (given 3 a) (first-of s (given 6 t)) ≡ 0
 none-holds a s t ea es et = ap (λ (b : Bool). first-of (given 3 b) (first-of s (given 6 t))) ea ∙ ap (λ (n : ℕ). first-of n (given 6 t)) es ∙ ap (given 6) et
 
-stamp-taken : (t T : ℕ) → T ≤ last-stamp → t ≤ T → stamp-refusal t T ≡ 0
-stamp-taken t T h l = ap₂ (λ (a b : Bool). first-of (given 4 a) (given 5 b)) (le-ltb last-stamp T h) (le-ltb T t l)
+stamp-taken : (k : Clock) (T : ℕ) → T ≤ last-stamp → k .latest ≤ T → stamp-refusal k T ≡ 0
+stamp-taken k T h l = ap₂ (λ (a b : Bool). first-of (given 4 a) (given 5 b)) (le-ltb last-stamp T h) (le-ltb T (k .latest) l)
 
-module _ (p : Property) (good : property-refusal (meant p) ≡ 0) (ls : Lines) (known : AllTaken (meant p) (line-in ls) (count ls)) (rise : StampsFrom 0 (first (line-in ls) (count ls))) (from : Reached)
-    (q : State) (one : (s : State) → lengths-reading (meant p) good .laws .Member (set-of (from .cut)) s ↔ (s ≡ q)) where
+module _ (p : Property) (good : property-refusal (meant p) ≡ 0) (ls : Lines) (known : AllTaken (meant p) (line-in ls) (count ls))
+    (rise : StampsFrom 0 (first (line-in ls) (count ls))) (from : Reached) (q : State)
+    (one : (s : State) → lengths-reading (meant p) good .laws .Member (set-of (from .cut)) s ↔ (s ≡ q)) where
   abbrev R : Reading (meant p) (Breaks (meant p))
   R = lengths-reading (meant p) good
 
+  -- line i waits
+  abbrev waits-at : ℕ → Bool
+  waits-at i = waits from i (is-output ls i)
+
   -- the lines that wait, of the first k
   abbrev pub waiting : ℕ → List Line
-  waiting k = left (λ (i : ℕ). waits from i (is-output ls i)) (line-in ls) k
+  waiting k = left waits-at (line-in ls) k
+
+  abbrev after : List Line → Front Lengths
+  after = through (meant p) (lengths (meant p)) (single (set-of (from .cut)))
 
   abbrev fronts : ℕ → Front Lengths
-  fronts k = through (meant p) (lengths (meant p)) (single (set-of (from .cut))) (waiting k)
+  fronts k = after (waiting k)
 
   abbrev verdict : Front Lengths → ℕ
   verdict f = verdict-number (front-verdict (meant p) (lengths (meant p)) f)
 
   record Sub (k : ℕ) : Type 0 where
-    latest : ℕ
+    clock : Clock
     line : ℕ
-    is : judged p ls from k ≡ record { cuts = open-cuts (fronts k) latest; told = says (verdict (fronts k)) line }
-    low : (j : ℕ) → k ≤ j → j < count ls → latest ≤ line-in ls j .stamp
+    is : judged p ls from k ≡ record { cuts = open-cuts (fronts k) clock; told = says (verdict (fronts k)) line }
+    low : (j : ℕ) → k ≤ j → j < count ls → clock .latest ≤ line-in ls j .stamp
 
   sub-start : Sub 0
   unfolding judged left through last-set
-  sub-start = record { latest = 0; line = 0; is = refl; low = λ j h l. omega arith }
+  sub-start = record { clock = fresh-clock; line = 0; is = refl; low = λ j h l. omega arith }
 
   rises : (k : ℕ) → k ≤ count ls → StampsFrom 0 (waiting k)
-  rises k h = some-rise (line-in ls) (λ (i : ℕ). waits from i (is-output ls i)) (count ls) rise k h
+  rises k h = some-rise (line-in ls) waits-at (count ls) rise k h
 
   lows : (k j : ℕ) → k ≤ j → j < count ls → All (λ (z : Line). z .stamp ≤ line-in ls j .stamp) (waiting k)
   lows k j h l =
-      some-low (line-in ls) (λ (i : ℕ). waits from i (is-output ls i)) k (line-in ls j .stamp) (λ i m. rising (line-in ls) 0 (count ls) rise i j (omega arith) l)
+      some-low (line-in ls) waits-at k (line-in ls j .stamp) (λ i m. rising (line-in ls) 0 (count ls) rise i j (omega arith) l)
 
-  sub-next : (k : ℕ) → k < count ls → Sub k → Sub (suc k)
-  unfolding judged turned
-  sub-next k h s = go (waits from k (is-output ls k)) refl
-    where
-      before : Judged
-      before = record { cuts = open-cuts (fronts k) (s .latest); told = says (verdict (fronts k)) (s .line) }
+  module _ (k : ℕ) (h : k < count ls) (s : Sub k) where
+    abbrev l : Line
+    l = line-in ls k
 
-      stepped : (b : Bool) → waits from k (is-output ls k) ≡ b
-          → judged p ls from (suc k)
-          ≡ cond b (judged-line p (line-in ls k) k (record { cuts = open-cuts (fronts k) (s .latest); told = says (verdict (fronts k)) (s .line) }))
-          (record { cuts = open-cuts (fronts k) (s .latest); told = says (verdict (fronts k)) (s .line) })
-      stepped b e =
-          ap (turned p from (is-output ls k) (line-in ls k) k) (s .is)
-          ∙ ap
-          (λ (t : Bool).
-          cond t (judged-line p (line-in ls k) k (record { cuts = open-cuts (fronts k) (s .latest); told = says (verdict (fronts k)) (s .line) }))
-          (record { cuts = open-cuts (fronts k) (s .latest); told = says (verdict (fronts k)) (s .line) }))
-          e
+    abbrev here : Judged
+    here = record { cuts = open-cuts (fronts k) (s .clock); told = says (verdict (fronts k)) (s .line) }
 
-      on : (b : Bool) → waits from k (is-output ls k) ≡ b → waiting (suc k) ≡ waiting k ++ cond b (line-in ls k ∷ []) []
-      on b e =
-          left-next (λ (i : ℕ). waits from i (is-output ls i)) (line-in ls) k ∙ ap (λ (t : Bool). waiting k ++ cond t (line-in ls k ∷ []) []) e
+    stepped : {b : Bool} → waits-at k ≡ b → judged p ls from (suc k) ≡ cond b (judged-line p l k here) here
+    unfolding judged turned
+    stepped e = ap (turned p from (is-output ls k) l k) (s .is) ∙ ap (λ (b : Bool). cond b (judged-line p l k here) here) e
 
-      go : (b : Bool) → waits from k (is-output ls k) ≡ b → Sub (suc k)
-      go false e =
-          let w : waiting (suc k) ≡ waiting k = on false e ∙ append-nil (waiting k) in
+    on : {b : Bool} → waits-at k ≡ b → waiting (suc k) ≡ waiting k ++ cond b (l ∷ []) []
+    on e = left-next waits-at (line-in ls) k ∙ ap (λ (b : Bool). waiting k ++ cond b (l ∷ []) []) e
+
+    not-waiting : waits-at k ≡ false → Sub (suc k)
+    not-waiting e =
+        record {
+          clock = s .clock;
+          line = s .line;
+          is =
+              stepped e
+              ∙ ap (λ (u : List Line). record { cuts = open-cuts (after u) (s .clock); told = says (verdict (after u)) (s .line) })
+              (sym (on e ∙ append-nil (waiting k)));
+          low = λ j a b. s .low j (omega arith) b;
+        }
+
+    module _ (e : waits-at k ≡ true) where
+      abbrev longer : Front Lengths
+      longer = front-with (meant p) (lengths (meant p)) (fronts k) l
+
+      abbrev later : Clock
+      later = ticked (s .clock) l false
+
+      grown : fronts (suc k) ≡ longer
+      grown = ap after (on e) ∙ through-last (meant p) (lengths (meant p)) (single (set-of (from .cut))) (waiting k) l
+
+      few : length (longer .held) ≤ most-open
+      few =
+          omega (
+            arith,
+            open-on R q (set-of (from .cut)) one (waiting k) l (rises k (omega arith)) (lows k k (omega arith) h),
+            some-open (line-in ls) waits-at (meant p) (l .stamp) (suc k),
+            ap (open-at (meant p) (l .stamp)) (on e),
+            known .room k h,
+          )
+
+      no-refusal : refusal-by p (open-cuts (fronts k) (s .clock)) (Call.line l) ≡ 0
+      no-refusal =
+          none-holds (action-above (l .action)) (stamp-refusal (s .clock) (l .stamp)) (ltb most-open (length (longer .held)))
+          (known .acts k h) (stamp-taken (s .clock) (l .stamp) (known .low k h) (s .low k (omega arith) h)) (le-ltb most-open _ few)
+
+      now-waiting : Sub (suc k)
+      now-waiting =
           record {
-            latest = s .latest;
-            line = s .line;
-            is =
-                stepped false e
-                ∙ sym
-                (ap
-                (λ (u : List Line).
-                record {
-                  cuts = open-cuts (through (meant p) (lengths (meant p)) (single (set-of (from .cut))) u) (s .latest);
-                  told = says (verdict (through (meant p) (lengths (meant p)) (single (set-of (from .cut))) u)) (s .line);
-                })
-                w);
-            low = λ j a b. s .low j (omega arith) b;
-          }
-      go true e =
-          record {
-            latest = line-in ls k .stamp;
+            clock = later;
             line = line-then (verdict (fronts k)) (verdict (fronts (suc k))) (s .line) k;
             is =
-                stepped true e
-                ∙ line-taken p (fronts k) (s .latest) (verdict (fronts k)) (s .line) (line-in ls k) k no-refusal
-                ∙ sym
-                (ap
-                (λ (f : Front Lengths).
-                record { cuts = open-cuts f (line-in ls k .stamp); told = says (verdict f) (line-then (verdict (fronts k)) (verdict f) (s .line) k) })
-                grown);
+                stepped e
+                ∙ line-taken p (fronts k) (s .clock) (verdict (fronts k)) (s .line) l k no-refusal
+                ∙ ap
+                (λ (f : Front Lengths). record { cuts = open-cuts f later; told = says (verdict f) (line-then (verdict (fronts k)) (verdict f) (s .line) k) })
+                (sym grown);
             low = λ j a b. rising (line-in ls) 0 (count ls) rise k j (omega arith) b;
           }
-        where
-          w : waiting (suc k) ≡ waiting k ++ line-in ls k ∷ []
-          w = on true e
 
-          grown : fronts (suc k) ≡ front-with (meant p) (lengths (meant p)) (fronts k) (line-in ls k)
-          grown =
-              ap (through (meant p) (lengths (meant p)) (single (set-of (from .cut)))) w
-              ∙ through-last (meant p) (lengths (meant p)) (single (set-of (from .cut))) (waiting k) (line-in ls k)
-
-          few : length (front-with (meant p) (lengths (meant p)) (fronts k) (line-in ls k) .held) ≤ most-open
-          few =
-              let a : length (front-with (meant p) (lengths (meant p)) (fronts k) (line-in ls k) .held) ≡ open-at (meant p) (line-in ls k .stamp) (waiting k ++ line-in ls k ∷ []) =
-              open-on R q (set-of (from .cut)) one (waiting k) (line-in ls k) (rises k (omega arith)) (lows k k (omega arith) h) in
-              let b : open-at (meant p) (line-in ls k .stamp) (waiting (suc k)) ≤ open-at (meant p) (line-in ls k .stamp) (first (line-in ls) (suc k)) =
-              some-open (line-in ls) (λ (i : ℕ). waits from i (is-output ls i)) (meant p) (line-in ls k .stamp) (suc k) in
-              omega (arith, a, b, ap (open-at (meant p) (line-in ls k .stamp)) w, known .room k h)
-
-          no-refusal : refusal-by p (open-cuts (fronts k) (s .latest)) (Call.line (line-in ls k)) ≡ 0
-          no-refusal =
-              none-holds (action-above (line-in ls k .action)) (stamp-refusal (s .latest) (line-in ls k .stamp))
-              (ltb most-open (length (front-with (meant p) (lengths (meant p)) (fronts k) (line-in ls k) .held)))
-              (known .acts k h) (stamp-taken (s .latest) (line-in ls k .stamp) (known .low k h) (s .low k (omega arith) h)) (le-ltb most-open _ few)
+    sub-next : (b : Bool) → waits-at k ≡ b → Sub (suc k)
+    sub-next true e = now-waiting e
+    sub-next false e = not-waiting e
 
   sub : (k : ℕ) → k ≤ count ls → Sub k
   sub zero h = sub-start
-  sub (suc k) h = sub-next k (omega arith) (sub k (omega arith))
+  sub (suc k) h = sub-next k (omega arith) (sub k (omega arith)) _ refl
 
   -- An order leads on to broken from the state.
   abbrev pub Ends : List Line → Type 0
@@ -227,7 +229,7 @@ module _ (p : Property) (good : property-refusal (meant p) ≡ 0) (ls : Lines) (
         front-verdict (meant p) (lengths (meant p)) (fronts (count ls)),
         ap (λ (j : Judged). j .told .verdict) (s .is),
         verdict-on R q (set-of (from .cut)) one (waiting (count ls)) last-stamp (rises (count ls) (omega arith))
-            (some-low (line-in ls) (λ (i : ℕ). waits from i (is-output ls i)) (count ls) last-stamp (λ i h. known .low i h)),
+            (some-low (line-in ls) waits-at (count ls) last-stamp (λ i h. known .low i h)),
       )
 
   pub waiting-rises : StampsFrom 0 (waiting (count ls))

@@ -56,7 +56,7 @@ ShowsBy Verdict.certain p run l l2 m m2 = Shows p run (Breaks p) l m × (m2 ≡ 
 ShowsBy Verdict.blind p run l l2 m m2 = ⊥
 
 -- The verdict, the line after which it "first reached its final level", and the orders.
-pub record Told (p : Words.Property) (run : Run) (r : Reason) (l l2 m m2 : Pair) : Type 0 where
+pub record TellsWhy (p : Words.Property) (run : Run) (r : Reason) (l l2 m m2 : Pair) : Type 0 where
   pub taken : r .refusal ≡ 0
   pub verdict : Verdict
   pub exact : IsVerdict p run verdict
@@ -71,7 +71,7 @@ pub record Refused (n : ℕ) (r : Reason) (l l2 m m2 : Pair) : Type 0 where
   pub kept2 : m2 ≡ l2
 
 abbrev pub ReasonBy : ℕ → Words.Property → Run → Reason → Pair → Pair → Pair → Pair → Type 0
-ReasonBy zero p run r l l2 m m2 = Told p run r l l2 m m2
+ReasonBy zero p run r l l2 m m2 = TellsWhy p run r l l2 m m2
 ReasonBy (suc n) p run r l l2 m m2 = Refused (suc n) r l l2 m m2
 
 -- What the call answers and leaves: l and l2 are the pairs as they were lent, m and m2 as they are afterwards.

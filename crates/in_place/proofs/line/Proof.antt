@@ -8,7 +8,7 @@ use Rattle.meaning.specs.Limits.{last-stamp, most-open}
 use Rattle.meaning.specs.Calls.{Call}
 use Rattle.property.proofs.Refusal.{taken-bounds}
 use Rattle.rows.specs.declared.Span.{Span}
-use Rattle.rows.proofs.Rows.{count-spanning, room-none}
+use Rattle.rows.proofs.Rows.{room-none}
 use Rattle.cuts.specs.Steps.{line-of, front-fresh}
 use Rattle.cuts.specs.Fronts.{front-of, Holds}
 use Rattle.session_record.specs.Lent.{Memory, memory, held-in}
@@ -114,7 +114,7 @@ run-on-requires : tie.Need-run-on-requires
 run-on-requires c κs =
     let k = c .before .before in
     let b = start (first (far k .before)) in
-    let none-open : k .begin .result .count ≡ 0 = ap (λ (s : Span). s .count) (k .begin .ensures .0) ∙ count-spanning 0 in (
+    let none-open : k .begin .result .count ≡ 0 = ap (λ (s : Span). s .count) (k .begin .ensures .0) in (
       (begun k .usable, b .pre .1),
       (
         record { within = omega arith; closed = λ i h. let z : ⊥ = omega arith in absurd z; next = λ h. let z : ⊥ = omega arith in absurd z },

@@ -6,7 +6,6 @@ use lib.ListN.{length, replicate}
 use borrow.Author.Needs.{needs}
 use Rattle.rows.specs.declared.Span.{Span}
 use Rattle.rows.specs.Rows.{Room}
-use Rattle.rows.proofs.Rows.{count-spanning}
 use Rattle.session_record.specs.Lent.{memory, held-in, Ready}
 use Rattle.session_record.proofs.Making.{four-room}
 use Rattle.judged_rest.specs.Lent.{Lines, lent}
@@ -61,7 +60,7 @@ run b = lent (b .args .output .now) (b .args .action .now) (b .args .stamp .now)
 -- the rows at first, each with its places
 room : (k : tie.After-spanning Inv-loop μ-loop) → Room (replicate 4 (replicate 65 0)) (k .spanning .result)
 room k =
-    let few : k .spanning .result .count ≡ 0 = ap (λ (s : Span). s .count) (k .spanning .ensures) ∙ count-spanning 0 in
+    let few : k .spanning .result .count ≡ 0 = ap (λ (s : Span). s .count) (k .spanning .ensures) in
     four-room (replicate 65 0) (replicate 65 0) (replicate 65 0) (replicate 65 0) refl refl refl refl (k .spanning .result) (omega arith)
 
 spanning-requires : tie.Need-spanning-requires Inv-loop μ-loop

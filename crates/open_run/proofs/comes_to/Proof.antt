@@ -32,12 +32,10 @@ enum-known-read-3 : tie.Need-enum-known-read-3
 enum-known-read-3 c = search needs
 
 returns-2 : tie.Need-returns-2
-returns-2 c =
-    kind-known (kind-outcome _ _) _ (c .before .before .before .before .if1 .left) (c .before .before .read .given .1) (c .line .ensures)
+returns-2 c = let arm = c .before .before in kind-known (kind-outcome _ _) _ (arm .before .before .if1 .left) (arm .read .given .1) (c .line .ensures)
 
 returns-3 : tie.Need-returns-3
-returns-3 c =
-    kind-known (kind-outcome _ _) _ (c .before .before .before .before .if1 .left) (c .before .before .read2 .given .1) (c .line2 .ensures)
+returns-3 c = let arm = c .before .before in kind-known (kind-outcome _ _) _ (arm .before .before .if1 .left) (arm .read2 .given .1) (c .line2 .ensures)
 
 returns-4 : tie.Need-returns-4
 returns-4 c = kind-known (kind-outcome _ _) _ (c .before .before .if1 .left) (c .enum-told .given .1) refl
@@ -46,7 +44,7 @@ returns-5 : tie.Need-returns-5
 returns-5 c = kind-known (kind-outcome _ _) _ (c .before .before .if1 .left) (c .enum-told2 .given .1) refl
 
 returns-6 : tie.Need-returns-6
-returns-6 c = kind-known (kind-outcome _ _) _ (c .before .before .before .if1 .left) (c .before .read3 .given .1) refl
+returns-6 c = let arm = c .before in kind-known (kind-outcome _ _) _ (arm .before .before .if1 .left) (arm .read3 .given .1) refl
 
 pub comes-to-spec : {M : Type 1} → statement M
 comes-to-spec =

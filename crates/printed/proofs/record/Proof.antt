@@ -1,17 +1,16 @@
--- `printed::record` meets its contract: refusal 10, or the record on its arrays, tidied.
+-- `printed::record` meets its contract: refusal 10, or the record on the rows of the session.
 use Prim.Native.Nat.{ℕ}
 use mathlib.Core.Path.{_≡_, sym, ap, subst, _∙_}
 use mathlib.Core.Bool.{true, false}
 use mathlib.Core.List.{List}
-use denote.Ref.{now}
 use Rattle.record_form.specs.Record.{record-answer}
 use Rattle.trace_form.specs.ReadAs.{ReadAs, case-as, read-as}
 use Rattle.trace_form.proofs.ReadAs.{read-case}
 use Rattle.session_record.specs.declared.Session.{Session}
 use Rattle.session_record.specs.Record.{latest-of, out-of-range}
-use Rattle.session_record.specs.Lent.{in-arrays, tidied, Ready}
+use Rattle.session_record.specs.Lent.{Memory, memory, memory-of}
 use Rattle.session_record.proofs.Range.{ranged}
-use Rattle.session_record.proofs.Ready.{tidied-ready}
+use Rattle.session_record.proofs.Ready.{lent-ready}
 use Rattle.line_text.specs.declared.Text.{Text}
 use Rattle.printed.specs.Lent.{Adds}
 use Rattle.printed.proofs.Listed.{named}
@@ -24,36 +23,44 @@ use Rattle.printed.proofs.record.Tie as tie
 fit : (e : tie.Else1) → out-of-range (e .before .before .before .args .s) ≡ false
 fit e = sym (e .before .unfit .ensures) ∙ e .if1 .left
 
--- from the tidied arrays back to where refusal 10 was passed, and what was given
-abbrev passed : tie.After-tidy → tie.Else1
-passed j = j .before .before .before .before .before .before .before .before .before .before .before .before .before .before
+-- what was given, from where refusal 10 was passed
+abbrev given : tie.Else1 → Session
+given e = e .before .before .before .args .s
 
-abbrev given : tie.After-tidy → Session
-given j = passed j .before .before .before .args .s
+abbrev count : tie.Else1 → ℕ
+count e = e .before .before .before .args .count
 
-abbrev count : tie.After-tidy → ℕ
-count j = passed j .before .before .before .args .count
+abbrev bytes : tie.Else1 → List ℕ
+bytes e = e .before .before .before .args .bytes .now
 
-abbrev bytes : tie.After-tidy → List ℕ
-bytes j = now (passed j .before .before .before .args .bytes)
+-- from the rows back to there, and to them from the record on them
+abbrev sharing : tie.After-clock → tie.Else1
+sharing c = c .before .before .before .before
 
--- from the record on lent arrays back to what was read and to the tidied arrays, and the session after it
+abbrev passed : tie.After-rows-of → tie.Else1
+passed k = sharing (k .before .before)
+
 abbrev reading : tie.After-record → tie.After-read-record
-reading k = k .before .before .before .before .before .before
+reading k = k .before .before .before
 
-abbrev start : tie.After-record → tie.After-tidy
-start k = reading k .before
+abbrev rows : tie.After-record → tie.After-rows-of
+rows k = reading k .before
 
-abbrev after : tie.After-record → Session
-after k =
-    let last = k .«record» .last .1 .1 in
-    in-arrays (given (start k) .property) (last .0) (last .1 .0) (last .1 .1 .0) (last .1 .1 .1 .0) (k .«record» .result .status)
+abbrev added : tie.After-text → tie.After-record
+added c = c .before .before
+
+-- what it adds, on the rows of the session
+abbrev after : tie.After-record → Memory
+after k = memory (given (passed (rows k)) .property) (k .«record» .last .1 .1 .0) (k .«record» .result .status)
 
 adds : (k : tie.After-record)
-    → Adds (tidied (given (start k))) (count (start k)) (read-as (record-answer (bytes (start k)) (latest-of (given (start k))))) (k .«record» .result) (after k)
+    → (let e = passed (rows k) in Adds (memory-of (given e)) (count e) (read-as (record-answer (bytes e) (latest-of (given e)))) (k .«record» .result) (after k))
 adds k =
-    subst (λ (x : ReadAs). Adds (tidied (given (start k))) (count (start k)) x (k .«record» .result) (after k)) (sym (read-case (reading k .read-record .ensures)))
-    (subst (λ (x : Session). Adds x (count (start k)) (case-as (reading k .read-record .result)) (k .«record» .result) (after k)) (start k .tidy .ensures) (k .«record» .ensures))
+    let e = passed (rows k) in
+    let s = given e in
+    subst (λ (x : ReadAs). Adds (memory-of s) (count e) x (k .«record» .result) (after k)) (sym (read-case (reading k .read-record .ensures)))
+    (subst (λ (x : List (List ℕ)). Adds (memory (s .property) x (s .shared .status)) (count e) (case-as (reading k .read-record .result)) (k .«record» .result) (after k))
+    (rows k .rows-of .ensures .0) (k .«record» .ensures))
 
 unfit-requires : tie.Need-unfit-requires
 unfit-requires c κs = search needs
@@ -63,43 +70,49 @@ stop-requires c κs = search needs
 
 returns : tie.Need-returns
 returns c =
-    let e = c .before in
-    let a = e .before .before .before .args in
-    ap (λ (t : Text). record { text = t; session = a .s; count = a .count; more = false }) (c .stop .ensures)
-    ∙ sym (named record-answer (a .s) (a .count) (now (a .bytes)) (sym (e .before .unfit .ensures) ∙ e .if1 .taken))
+    let t = c .before in
+    let a = t .before .before .before .args in
+    ap (λ (x : Text). record { text = x; session = a .s; count = a .count; more = false }) (c .stop .ensures)
+    ∙ sym (named record-answer (a .s) (a .count) (a .bytes .now) (sym (t .before .unfit .ensures) ∙ t .if1 .taken))
 
 table-requires : tie.Need-table-requires
-table-requires c κs =
-    ranged (c .before .before .before .before .before .before .args .s) (fit (c .before .before .before)) .formed
+table-requires c κs = let e = sharing c in ranged (given e) (fit e) .formed
 
-tidy-requires : tie.Need-tidy-requires
-tidy-requires c κs = (
-  record { held-long = search needs; acts-long = search needs; masks-long = search needs; marks-long = search needs },
-  fit (c .before .before .before .before .before .before .before .before .before .before .before .before .before),
-)
+rows-of-requires : tie.Need-rows-of-requires
+rows-of-requires c κs = search needs
 
 read-record-requires : tie.Need-read-record-requires
 read-record-requires c κs = search needs
 
+slice-aggregate-record : tie.Need-slice-aggregate-record
+slice-aggregate-record c = search needs
+
 record-requires : tie.Need-record-requires
 record-requires c κs =
-    let j = c .before .before .before .before .before .before in
-    (subst Ready (sym (j .tidy .ensures)) (tidied-ready (given j) (fit (passed j))), j .before .before .before .before .before .before .before .before .before .before .table .ensures)
+    let k = c .before .before .before in
+    let e = passed k in
+    (lent-ready (given e) (fit e) (k .rows-of .result) (k .rows-of .ensures .0) (k .rows-of .ensures .2), k .before .table .ensures)
+
+slice-aggregate-made : tie.Need-slice-aggregate-made
+slice-aggregate-made c = search needs
 
 made-requires : tie.Need-made-requires
-made-requires c κs = search needs
+made-requires c κs = adds (added (c .before .before)) .ready
 
 returns-2 : tie.Need-returns-2
 returns-2 c =
-    let k = c .before .before .before in
+    let t = c .before .before in
+    let k = added (t .before) in
+    let e = passed (rows k) in
     let r = k .«record» .result in
     ap (λ (x : Session). record { text = r .text; session = x; count = r .count; more = true }) (c .made .ensures)
-    ∙ by-value-more (given (start k)) (fit (passed (start k))) (count (start k)) (bytes (start k)) r (after k) (adds k) (c .before .if2 .taken)
+    ∙ by-value-more (given e) (fit e) (count e) (bytes e) r (after k) (adds k) (t .if2 .taken)
 
 returns-3 : tie.Need-returns-3
 returns-3 c =
-    let k = c .before .before in
-    by-value-last (given (start k)) (fit (passed (start k))) (count (start k)) (bytes (start k)) (k .«record» .result) (after k) (adds k) (c .if2 .left)
+    let k = added (c .before) in
+    let e = passed (rows k) in
+    by-value-last (given e) (fit e) (count e) (bytes e) (k .«record» .result) (after k) (adds k) (c .if2 .left)
 
 pub record-spec : {M : Type 1} → statement M
 record-spec =
@@ -109,9 +122,11 @@ record-spec =
     stop-requires
     returns
     table-requires
-    tidy-requires
+    rows-of-requires
     read-record-requires
+    slice-aggregate-record
     record-requires
+    slice-aggregate-made
     made-requires
     returns-2
     returns-3)

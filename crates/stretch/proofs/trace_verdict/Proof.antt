@@ -1,18 +1,40 @@
 -- `stretch::trace_verdict` meets its contract: by how the walk over the trace stopped.
 use Prim.Native.Nat.{ℕ}
-use mathlib.Core.Path.{sym, ap, _∙_}
-use denote.Ref.{now}
-use Rattle.stretch.proofs.Judging.{fresh-ready, judged-budget, judged-refused, judged-behind, judged-ended}
+use mathlib.Core.Path.{_≡_, sym, ap, _∙_}
+use Rattle.cuts.specs.Steps.{fresh-by}
+use Rattle.session_record.specs.Record.{record-of}
+use Rattle.session_record.specs.Lent.{Memory, record-in}
+use Rattle.session_record.proofs.Ready.{fresh-memory, fresh-means, fresh-ready}
+use Rattle.stretch.proofs.Judging.{judged-budget, judged-behind, judged-ended, judged-refused}
 use borrow.Author.Needs.{needs}
 use Rattle.stretch.proofs.trace_verdict.Statement.{statement}
 use Rattle.stretch.proofs.trace_verdict.Tie as tie
 
--- where the walk over the trace began
-abbrev made : tie.After-records → tie.After-fresh
-made k = k .before .before .before .before .before .before .before .before .before .before .before .before .before
+-- from the rows of the fresh session back to it and to the entry, and to the rows from the walk on them
+abbrev made : tie.After-rows-of → tie.After-fresh
+made k = k .before .before .before
 
-abbrev start : tie.After-records → tie.Start
-start k = k .before .before .before .before .before .before .before .before .before .before .before .before .before .before .before .before
+abbrev began : tie.After-fresh → tie.Start
+began k = k .before .before .before
+
+abbrev rows : tie.After-records → tie.After-rows-of
+rows k = k .before .before .before
+
+abbrev entry : tie.After-records → tie.Start
+entry k = began (made (rows k))
+
+-- what they mean
+abbrev lent : tie.After-records → Memory
+lent k =
+    let f = made (rows k) in
+    let b = began f in
+    fresh-memory (b .args .p) (b .pre) (f .fresh .result) (f .fresh .ensures) (rows k .rows-of .result) (rows k .rows-of .ensures .0)
+
+means : (k : tie.After-records) → record-in (lent k) ≡ record-of (entry k .args .p) (fresh-by (entry k .args .p))
+means k =
+    let f = made (rows k) in
+    let b = began f in
+    fresh-means (b .args .p) (b .pre) (f .fresh .result) (f .fresh .ensures) (rows k .rows-of .result) (rows k .rows-of .ensures .0)
 
 table-requires : tie.Need-table-requires
 table-requires c κs = search needs
@@ -20,13 +42,18 @@ table-requires c κs = search needs
 fresh-requires : tie.Need-fresh-requires
 fresh-requires c κs = search needs
 
+rows-of-requires : tie.Need-rows-of-requires
+rows-of-requires c κs = search needs
+
+slice-aggregate-records : tie.Need-slice-aggregate-records
+slice-aggregate-records c = search needs
+
 records-requires : tie.Need-records-requires
 records-requires c κs =
-    let b = c .before .before .before .before .before .before .before .before .before .before .before .before .before .before .before in
-    let made = c .before .before .before .before .before .before .before .before .before .before .before .before .fresh in (
-      fresh-ready (b .args .p) (b .pre) (made .result) (made .ensures),
-      c .before .before .before .before .before .before .before .before .before .before .before .before .before .table .ensures,
-    )
+    let k = c .before .before in
+    let f = made k in
+    let b = began f in
+    (fresh-ready (b .args .p) (b .pre) (f .fresh .result) (f .fresh .ensures) (k .rows-of .result) (k .rows-of .ensures .0) (k .rows-of .ensures .2), f .before .table .ensures)
 
 enum-told : tie.Need-enum-told
 enum-told c = search needs
@@ -42,16 +69,17 @@ refusal-requires-2 c κs = search needs
 
 returns : tie.Need-returns
 returns c =
-    let k = c .before .before .before .before .before in
-    let b = start k in
-    let fresh = made k .fresh in
+    let t = c .before in
+    let m = t .before .before in
+    let k = m .before .before .before in
     c .refusal2 .ensures
-    ∙ sym
-    (judged-behind (b .args .p) (b .pre) (now (b .args .trace)) (fresh .result) (fresh .ensures) _ (k .records .ensures .walked)
-    (c .before .before .before .enum-told2 .given .1) (c .before .if1 .taken))
+    ∙ sym (judged-behind (entry k .args .p) (entry k .args .trace .now) (record-in (lent k)) (means k) _ (k .records .ensures .walked) (m .enum-told2 .given .1) (t .if1 .taken))
+
+slice-aggregate-verdict-of : tie.Need-slice-aggregate-verdict-of
+slice-aggregate-verdict-of c = search needs
 
 verdict-of-requires : tie.Need-verdict-of-requires
-verdict-of-requires c κs = c .before .before .before .before .before .before .before .before .records .ensures .ready
+verdict-of-requires c κs = let m = c .before .before .before in m .before .before .before .records .ensures .ready
 
 enum-known-stop : tie.Need-enum-known-stop
 enum-known-stop c = search needs
@@ -61,33 +89,25 @@ refusal-requires-3 c κs = search needs
 
 returns-2 : tie.Need-returns-2
 returns-2 c =
-    let k = c .before .before .before in
-    let b = start k in
-    let fresh = made k .fresh in
+    let m = c .before in
+    let k = m .before .before .before in
     c .refusal .ensures
-    ∙ sym
-    (judged-budget (b .args .p) (b .pre) (now (b .args .trace)) (fresh .result) (fresh .ensures) _ (k .records .ensures .walked)
-    (c .before .enum-told .given .1))
+    ∙ sym (judged-budget (entry k .args .p) (entry k .args .trace .now) (record-in (lent k)) (means k) _ (k .records .ensures .walked) (m .enum-told .given .1))
 
 returns-3 : tie.Need-returns-3
 returns-3 c =
-    let k = c .before .before .before .before .before .before .before .before .before in
-    let b = start k in
-    let fresh = made k .fresh in
+    let e = c .before .before in
+    let m = e .before .before in
+    let k = m .before .before .before in
     ap (λ (v : ℕ). record { refusal = 0; verdict = v; count = k .records .result .taken }) (c .verdict-of .ensures)
-    ∙ sym
-    (judged-ended (b .args .p) (b .pre) (now (b .args .trace)) (fresh .result) (fresh .ensures) _ (k .records .ensures .walked)
-    (c .before .before .before .before .before .before .before .enum-told2 .given .1) (c .before .before .before .before .before .if1 .left))
+    ∙ sym (judged-ended (entry k .args .p) (entry k .args .trace .now) (record-in (lent k)) (means k) _ (k .records .ensures .walked) (m .enum-told2 .given .1) (e .if1 .left))
 
 returns-4 : tie.Need-returns-4
 returns-4 c =
-    let k = c .before .before .before .before in
-    let b = start k in
-    let fresh = made k .fresh in
+    let m = c .before .before in
+    let k = m .before .before .before in
     c .refusal3 .ensures
-    ∙ sym
-    (judged-refused (b .args .p) (b .pre) (now (b .args .trace)) (fresh .result) (fresh .ensures) _ (k .records .ensures .walked)
-    _ (c .before .before .stop .given .1))
+    ∙ sym (judged-refused (entry k .args .p) (entry k .args .trace .now) (record-in (lent k)) (means k) _ (k .records .ensures .walked) _ (m .stop .given .1))
 
 pub trace-verdict-spec : {M : Type 1} → statement M
 trace-verdict-spec =
@@ -95,12 +115,15 @@ trace-verdict-spec =
     (tie.spec
     table-requires
     fresh-requires
+    rows-of-requires
+    slice-aggregate-records
     records-requires
     enum-told
     refusal-requires
     enum-told-2
     refusal-requires-2
     returns
+    slice-aggregate-verdict-of
     verdict-of-requires
     enum-known-stop
     refusal-requires-3

@@ -1,6 +1,6 @@
 -- `walk::walk` meets its contract: refusal 10, or the records on its rows.
 use Prim.Native.Nat.{ℕ}
-use mathlib.Core.Path.{_≡_, sym, ap, ap₂, subst, _∙_}
+use mathlib.Core.Path.{_≡_, sym, ap₂, subst, _∙_}
 use mathlib.Core.Bool.{false}
 use mathlib.Core.List.{List}
 use Rattle.rows.specs.Rows.{Room}
