@@ -9,7 +9,7 @@ use Rattle.meaning.specs.Words.{Action}
 use Rattle.meaning.specs.Calls.{Call}
 use Rattle.property_form.specs.Read.{read}
 use Rattle.record_form.specs.Record.{record-size}
-use Rattle.cuts.specs.Arrays.{number-of}
+use Rattle.cuts.specs.Fronts.{number-of}
 use Rattle.session_record.specs.declared.Session.{Session}
 use Rattle.session_record.specs.Record.{count-of, out-of-range}
 use Rattle.session_record.specs.Step.{standing}

@@ -1,12 +1,10 @@
--- `listing_shell::next` meets its contract: what a record adds fits its room, and the arrays are ready for the next one.
+-- `listing_shell::next` meets its contract: what a record adds fits its room, and the rows are ready for the next one.
 use Prim.Native.Nat.{ℕ, _≤_}
 use mathlib.Core.Path.{_≡_}
 use native.Mathlib.Omega.{arith}
 use lib.ListN.{length-append}
 use Rattle.io.proofs.Counting.{counts}
-use denote.Ref.{now}
-use Rattle.session_record.specs.declared.Session.{Session}
-use Rattle.session_record.specs.Lent.{in-arrays}
+use Rattle.session_record.specs.Lent.{memory}
 use Rattle.listing_shell.specs.declared.Form.{Form}
 use Rattle.listing_shell.specs.declared.Form.the-variants.{Record, Tap}
 use Rattle.listing_shell.specs.Form.{size-of}
@@ -15,14 +13,12 @@ use borrow.Author.Needs.{needs}
 use Rattle.listing_shell.proofs.next.Statement.{statement}
 use Rattle.listing_shell.proofs.next.Tie as tie
 
-abbrev start : tie.After-record → tie.Start
-start c = c .before .before .before .before .before .before .before .before .before .before .before
+-- from the end back to the record that was read, and to the bytes that came
+abbrev read : tie.After-rows → tie.After-read-record
+read c = c .before .before .before
 
--- the record that the arrays make up at the entry
-abbrev entry : tie.After-record → Session
-entry c =
-    let a = start c .args in
-    in-arrays (a .p) (now (a .held)) (now (a .acts)) (now (a .masks)) (now (a .marks)) (a .status)
+abbrev came : tie.After-read-record → tie.After-read-full
+came k = k .before .before .before .before
 
 -- a record of either form fits six bytes
 fits : (n : ℕ) (form : Form) → n ≡ size-of form → n ≤ 6
@@ -42,7 +38,7 @@ read-full-requires : tie.Need-read-full-requires
 read-full-requires c κs = search needs
 
 array-share-prefix-bytes : tie.Need-array-share-prefix-bytes
-array-share-prefix-bytes c = simp length-append (omega (arith, c .before .read-full .ensures .0))
+array-share-prefix-bytes c = simp length-append (omega (arith, c .before .before .read-full .ensures .0))
 
 slice-aggregate-read-record : tie.Need-slice-aggregate-read-record
 slice-aggregate-read-record c = counts _ _ (array-share-prefix-bytes (c .before)) .1
@@ -53,12 +49,18 @@ read-record-requires c κs = search needs
 record-requires : tie.Need-record-requires
 record-requires c κs = search needs
 
+same-length : tie.Need-same-length
+same-length c = search needs
+
 returns : tie.Need-returns
 returns c =
-    let got = c .before .before .before .before .before .before .before .before in
-    lists (start c .args .form) (entry c) (start c .pre .0) (c .before .before .before .before .before .read-record .ensures)
-    (front-few (got .read-full .result) _ _ (omega (arith, got .read-full .ensures .0, got .read-full .kept .1 .0, slice-aggregate-read-full (got .before), got .before .before .record-size .ensures)))
-    (c .«record» .ensures)
+    let k = read c in
+    let got = came k in
+    let size = got .before .before in
+    let a = size .before .args in
+    lists (a .form) (memory (a .p) (a .rows .now) (a .status)) (size .before .pre .0) (k .read-record .ensures)
+    (front-few (got .read-full .result) _ _ (omega (arith, got .read-full .ensures .0, got .read-full .kept .1 .0, slice-aggregate-read-full (got .before), size .record-size .ensures)))
+    (c .before .«record» .ensures)
 
 pub next-spec : {M : Type 1} → statement M
 next-spec =
@@ -72,4 +74,5 @@ next-spec =
     slice-aggregate-read-record
     read-record-requires
     record-requires
+    same-length
     returns)

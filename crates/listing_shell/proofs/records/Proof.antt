@@ -1,30 +1,52 @@
--- `listing_shell::records` is safe and ends: the arrays are ready before each record, and the turns that are left are fewer each time.
+-- `listing_shell::records` is safe and ends: the rows are ready before each record, and the turns that are left are fewer each time.
+use mathlib.Core.Path.{_≡_}
 use native.Mathlib.Omega.{arith}
-use Rattle.session_record.specs.Lent.{in-arrays, Ready}
+use lib.ListN.{length}
+use borrow.Author.Needs.{needs}
+use Rattle.session_record.specs.Lent.{memory, Ready}
 use Rattle.session_record.proofs.Range.{ranged}
+use Rattle.session_record.proofs.Ready.{lent-ready}
 use Rattle.listing_shell.proofs.Listed.{lists-fits}
+use borrow.Author.Needs.{needs}
 use Rattle.listing_shell.proofs.records.Statement.{statement}
 use Rattle.listing_shell.proofs.records.Tie as tie
 
 abbrev Inv-loop : tie.InvT-loop
-Inv-loop fd form p table held₀ acts₀ masks₀ marks₀ status₀ count₀ turns₀ held acts masks marks status count turns =
-    Ready (in-arrays p held acts masks marks status)
+Inv-loop fd form p table rows₀ status₀ count₀ turns₀ rows status count turns = Ready (memory p rows status) × (length rows ≡ 4)
 
 abbrev μ-loop : tie.MeasureT-loop
-μ-loop fd form p table held₀ acts₀ masks₀ marks₀ status₀ count₀ turns₀ held acts masks marks status count turns =
-    turns
+μ-loop fd form p table rows₀ status₀ count₀ turns₀ rows status count turns = turns
+
+-- from the rows of the session back to the entry, and from a record to the turn of the loop and on
+abbrev entry : tie.After-rows-of Inv-loop μ-loop → tie.Start Inv-loop μ-loop
+entry k = k .before .before .before .before
+
+abbrev turn : tie.After-rows Inv-loop μ-loop → tie.At-loop Inv-loop μ-loop
+turn c = c .before .before .before
+
+abbrev shown : tie.Else1 Inv-loop μ-loop → tie.After-next Inv-loop μ-loop
+shown e = e .before .before .before
 
 table-requires : tie.Need-table-requires Inv-loop μ-loop
-table-requires c κs = ranged _ (c .before .before .before .pre .fits) .formed
+table-requires c κs = let b = c .before .before in ranged (b .args .s) (b .pre) .formed
+
+rows-of-requires : tie.Need-rows-of-requires Inv-loop μ-loop
+rows-of-requires c κs = search needs
 
 loop-holds : tie.Need-loop-holds Inv-loop μ-loop
-loop-holds c = c .before .before .before .before .before .before .before .before .before .pre
+loop-holds c =
+    let k = c .before in
+    let b = entry k in
+    (lent-ready (b .args .s) (b .pre) (k .rows-of .result) (k .rows-of .ensures .0) (k .rows-of .ensures .2), k .rows-of .ensures .1)
+
+slice-aggregate-next : tie.Need-slice-aggregate-next Inv-loop μ-loop
+slice-aggregate-next c = search needs
 
 next-requires : tie.Need-next-requires Inv-loop μ-loop
-next-requires c κs = (c .before .before .before .before .before .before .loop .inv, c .before .before .before .before .before .before .before .before .before .before .before .before .table .ensures)
+next-requires c κs = let t = turn c in (t .loop .inv .0, t .before .before .before .table .ensures)
 
 shown-requires : tie.Need-shown-requires Inv-loop μ-loop
-shown-requires c κs = lists-fits (c .next .ensures)
+shown-requires c κs = lists-fits (c .before .next .ensures)
 
 returns : tie.Need-returns Inv-loop μ-loop
 returns c = tt
@@ -36,7 +58,7 @@ loop-less : tie.Need-loop-less Inv-loop μ-loop
 loop-less c = omega arith
 
 loop-again : tie.Need-loop-again Inv-loop μ-loop
-loop-again c = c .before .before .before .next .ensures .ready
+loop-again c = (shown (c .before) .next .ensures .ready, search needs)
 
 returns-2 : tie.Need-returns-2 Inv-loop μ-loop
 returns-2 c = tt
@@ -48,7 +70,9 @@ records-spec =
     Inv-loop
     μ-loop
     table-requires
+    rows-of-requires
     loop-holds
+    slice-aggregate-next
     next-requires
     shown-requires
     returns

@@ -17,18 +17,25 @@ use borrow.Author.Needs.{needs}
 use Rattle.named.proofs.record.Statement.{statement}
 use Rattle.named.proofs.record.Tie as tie
 
--- what was given
+-- from the record that was listed back to the entry, and what was given there
+abbrev start : tie.After-record → tie.Start
+start k = k .before .before .before .before .before .before .before
+
 abbrev S : tie.After-record → Session
-S k = k .before .before .before .before .before .before .args .s
+S k = start k .args .s
 
 abbrev count : tie.After-record → ℕ
-count k = k .before .before .before .before .before .before .args .count
+count k = start k .args .count
 
 abbrev bytes : tie.After-record → List ℕ
-bytes k = now (k .before .before .before .before .before .before .args .bytes)
+bytes k = now (start k .args .bytes)
 
 abbrev names : tie.After-record → Action → List ℕ
-names k = let a = k .before .before .before .before .before .before .args in names-of (now (a .site)) (now (a .release))
+names k = names-of (now (start k .args .site)) (now (start k .args .release))
+
+-- from its two answers back to it
+abbrev listed : tie.After-session → tie.After-record
+listed c = c .before .before
 
 went : (k : tie.After-record) → k .«record» .result .more ≡ true → Took (S k) (count k) (bytes k) (k .«record» .result)
 went k h = took (S k) (count k) (bytes k) (k .«record» .result) (k .«record» .ensures) h
@@ -37,12 +44,12 @@ record-requires : tie.Need-record-requires
 record-requires c κs = search needs
 
 named-line-requires : tie.Need-named-line-requires
-named-line-requires c κs = went (c .before .before .before) (c .if1 .taken) .line
+named-line-requires c κs = went (listed (c .before)) (c .if1 .taken) .line
 
 returns : tie.Need-returns
 unfolding named-of
 returns c =
-    let k = c .before .before .before .before in
+    let k = listed (c .before .before) in
     let t = went k (c .before .if1 .taken) in
     λ i. record {
       text = (c .named-line .ensures (t .line) ∙ ap named-text-of (took-same (S k) (count k) (bytes k) (names k) (k .«record» .result) t)) i;
@@ -53,13 +60,13 @@ returns c =
 
 unnamed-requires : tie.Need-unnamed-requires
 unnamed-requires c κs =
-    let k = c .before .before .before in
+    let k = listed (c .before) in
     subst (λ (x : Printed). x .text .len ≤ room) (sym (k .«record» .ensures)) (printed-fits record-answer (S k) (count k) (bytes k))
 
 returns-2 : tie.Need-returns-2
 unfolding named-of
 returns-2 c =
-    let k = c .before .before .before .before in
+    let k = listed (c .before .before) in
     λ i. record {
       text = (c .unnamed .ensures ∙ ap named-text-of (last-same (S k) (count k) (bytes k) (names k) (k .«record» .result) (k .«record» .ensures) (c .before .if1 .left))) i;
       session = k .«record» .ensures i .session;
