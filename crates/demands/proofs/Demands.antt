@@ -114,7 +114,7 @@ module _ (p : PropertyMeant) (good : property-refusal p ≡ 0) where
   -- mark. Lost lines stand where they were lost, and "the caller may mark a gap" for a refused line.
   module _ (calls : List Call) (earlier : List Event) (g : Mark) (between : List Event) (quiet : Quiet p (highest 0 (fed earlier ++ Call.mark g ∷ [])) (fed between)) where
     -- "Then after the mark, until a line comes more than twice the upper bound after everything taken or marked, the watcher says blind."
-    pub demand-3-blind : kept p fresh calls ≡ fed (earlier ++ Event.mark g ∷ between) → watched p fresh calls .is-blind ≡ true
+    pub demand-3-blind : kept p fresh calls ≡ fed (earlier ++ Event.mark g ∷ between) → watched p fresh calls .clock .is-blind ≡ true
     demand-3-blind e = blind-kept p good calls earlier g between quiet e
 
     -- "From that line to the next mark, whatever was lost, its verdict after each line taken is the exact one over the full history

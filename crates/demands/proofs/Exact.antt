@@ -23,15 +23,17 @@ use Rattle.demands.proofs.Running.{running, seen, running-stands, runni
 module _ (q : Words.Property) (good : property-refusal q ≡ 0) where
   -- calls of which those taken are what the watcher was fed
   module _ (calls : List Call) (earlier : List Event) (g : Mark) (between : List Event) (quiet : Quiet q (highest 0 (fed earlier ++ Call.mark g ∷ [])) (fed between)) where
-    blind-fed : AllTaken q fresh (fed (earlier ++ Event.mark g ∷ between)) → watched q fresh (fed (earlier ++ Event.mark g ∷ between)) .is-blind ≡ true
+    blind-fed : AllTaken q fresh (fed (earlier ++ Event.mark g ∷ between))
+        → watched q fresh (fed (earlier ++ Event.mark g ∷ between)) .clock .is-blind ≡ true
     unfolding fed
     blind-fed t =
         let e = fed-append earlier (Event.mark g ∷ between) in
-        ap (λ (ks : List Call). watched q fresh ks .is-blind) e ∙ blind-until q (fed earlier) (fed between) g (subst (AllTaken q fresh) e t) quiet
+        ap (λ (ks : List Call). watched q fresh ks .clock .is-blind) e
+        ∙ blind-until q (fed earlier) (fed between) g (subst (AllTaken q fresh) e t) quiet
 
-    pub blind-kept : kept q fresh calls ≡ fed (earlier ++ Event.mark g ∷ between) → watched q fresh calls .is-blind ≡ true
+    pub blind-kept : kept q fresh calls ≡ fed (earlier ++ Event.mark g ∷ between) → watched q fresh calls .clock .is-blind ≡ true
     blind-kept e =
-        ap (λ (w : Watch). w .is-blind) (sym (kept-same q fresh calls) ∙ ap (watched q fresh) e)
+        ap (λ (w : Watch). w .clock .is-blind) (sym (kept-same q fresh calls) ∙ ap (watched q fresh) e)
         ∙ blind-fed (subst (AllTaken q fresh) e (kept-taken q fresh calls))
 
     pub exact-kept : (first : Line) (later : List Event) → kept q fresh calls ≡ fed ((earlier ++ Event.mark g ∷ between) ++ Event.line first ∷ later)
@@ -78,8 +80,8 @@ module _ (p : Property) (good : property-refusal (meant p) ≡ 0) where
         (λ u h. standing-unique R a u v h (standing-agrees R a)),
       )
 
-  blind-only : (w : Watch) (v : Verdict) → w .is-blind ≡ true → Standing (meant p) w v → v ≡ Verdict.blind
+  blind-only : (w : Watch) (v : Verdict) → w .clock .is-blind ≡ true → Standing (meant p) w v → v ≡ Verdict.blind
   blind-only w v e h = subst (λ (b : Bool). cond b (v ≡ Verdict.blind) (IsVerdict (meant p) (w .run) v)) e h
 
-  pub says-blind : (w : Watch) (v : Verdict) → w .is-blind ≡ true → Standing (meant p) w v → verdict-number v ≡ 3
+  pub says-blind : (w : Watch) (v : Verdict) → w .clock .is-blind ≡ true → Standing (meant p) w v → verdict-number v ≡ 3
   says-blind w v e h = ap verdict-number (blind-only w v e h)

@@ -1,15 +1,16 @@
 -- Document 02, CR 7: "Say how many lines were lost", down to the numbers; and that no answer, verdict or session depends on it.
 use Prim.Native.Nat.{ℕ, zero, suc, _+_, _≤_}
 use mathlib.Core.Path.{_≡_, refl, sym, _∙_, ap, ap₂, subst}
-use mathlib.Core.Bool.{Bool, true, false, cond, not}
-use mathlib.Core.List.{List, [], Forall₂·nil, Forall₂·cons}
+use mathlib.Core.Bool.{Bool, false, cond, not}
+use mathlib.Core.List.{List, Forall₂·nil, Forall₂·cons}
 use native.Mathlib.Omega.{arith}
 use lib.ListN.{length, drop, length-drop}
 use lib.Dec.{ltb, eqb}
 use borrow.Author.Tests.{le-ltb}
 use Rattle.meaning.specs.Words.{Property}
 use Rattle.meaning.specs.Numbers.{given, first-of}
-use Rattle.meaning.specs.Calls.{Call, Watch, mark-at, stamp-refusal, refusal, unless-refused, next, watched, Answer, AnswerBy, IsAnswer}
+use Rattle.meaning.specs.Calls.{Call, Watch, mark-at, stamp-refusal, refusal, taken as watch-taken, unless-refused, next, watched}
+use Rattle.meaning.specs.Calls.{Answer, AnswerBy, IsAnswer}
 use Rattle.meaning.specs.History.{stamp-of as call-stamp}
 use Rattle.fields.specs.Fields.{field}
 use Rattle.record_form.specs.Record.{RecordAnswer, record-size, record-answer, broken, stamp-above, fields-refusal, read-refusal, write-refusal}
@@ -64,13 +65,15 @@ unfolding refusal-of
 demand-1-mark s lost stamp = answer-refusal s (mark-at lost stamp)
 
 -- ==== "Verdicts, blindness and sessions do not depend on it". By the rules, what two such histories come to is the same,
-same-refusal : (lost other : ℕ) → lost ≤ 63 → other ≤ 63 → ltb 63 lost ≡ ltb 63 other
-same-refusal lost other h k = le-ltb 63 lost h ∙ sym (le-ltb 63 other k)
+same-refusal : (p : Property) (w : Watch) (lost other stamp : ℕ) → lost ≤ 63 → other ≤ 63
+    → refusal p w (mark-at lost stamp) ≡ refusal p w (mark-at other stamp)
+same-refusal p w lost other stamp h k =
+    ap (λ (b : Bool). first-of (given 3 b) (stamp-refusal (w .clock) stamp)) (le-ltb 63 lost h ∙ sym (le-ltb 63 other k))
 
 same-next : (p : Property) {c d : Call} → SameCall c d → (w : Watch) → next p w c ≡ next p w d
 same-next p (SameCall.line l) w = refl
 same-next p (SameCall.mark lost other stamp h k) w =
-    ap (λ (b : Bool). unless-refused (first-of (given 3 b) (stamp-refusal (w .latest) stamp)) (record { is-blind = true; run = []; latest = stamp }) w) (same-refusal lost other h k)
+    ap (λ (n : ℕ). unless-refused n (watch-taken p w (mark-at lost stamp)) w) (same-refusal p w lost other stamp h k)
 
 pub same-watched : (p : Property) {calls others : List Call} → SameCalls calls others → (w : Watch) → watched p w calls ≡ watched p w others
 unfolding watched
@@ -82,7 +85,7 @@ pub same-told : (p : Property) {c d : Call} → SameCall c d → (w : Watch) (a 
 same-told p (SameCall.line l) w a h = h
 same-told p (SameCall.mark lost other stamp k l) w a h =
     go (refusal p w (mark-at other stamp))
-    (subst (λ (n : ℕ). AnswerBy n p w (mark-at lost stamp) a) (ap (λ (b : Bool). first-of (given 3 b) (stamp-refusal (w .latest) stamp)) (same-refusal lost other k l)) h)
+    (subst (λ (n : ℕ). AnswerBy n p w (mark-at lost stamp) a) (same-refusal p w lost other stamp k l) h)
   where
     go : (n : ℕ) → AnswerBy n p w (mark-at lost stamp) a → AnswerBy n p w (mark-at other stamp) a
     go zero q = q

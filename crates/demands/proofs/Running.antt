@@ -4,7 +4,7 @@ use mathlib.Core.Bool.{false}
 use mathlib.Core.List.{List, [], _∷_, _++_}
 use Rattle.meaning.specs.Node.{Breaks}
 use Rattle.meaning.specs.Numbers.{property-refusal}
-use Rattle.meaning.specs.Calls.{Call, Watch, fresh, watched, AllTaken, refusal, taken, next}
+use Rattle.meaning.specs.Calls.{Call, Clock, Watch, fresh, watched, AllTaken, refusal, taken, next}
 use Rattle.meaning.specs.Matcher.{Lengths}
 use Rattle.meaning.specs.Step.{Cuts, grown}
 use Rattle.meaning.proofs.Sets.{Reading}
@@ -50,12 +50,13 @@ module _ (p : Property) (good : property-refusal (meant p) ≡ 0) where
   pub running-property : (calls : List Call) → running calls .property ≡ p
   running-property calls = ap (λ (s : Session). s .property) (running-record p good calls)
 
-  agrees-latest : {w : Watch} {c : Cuts Lengths} → Agrees R w c → c .latest ≡ w .latest
-  agrees-latest (open-run run latest f fit few) = refl
-  agrees-latest (blind latest) = refl
+  agrees-clock : {w : Watch} {c : Cuts Lengths} → Agrees R w c → c .clock ≡ w .clock
+  agrees-clock (open-run run clock f fit few) = refl
+  agrees-clock (blind clock) = refl
 
-  pub running-latest : (calls : List Call) → latest-of (running calls) ≡ seen calls .latest
-  running-latest calls = ap (λ (c : Cuts Lengths). c .latest) (running-stands calls) ∙ agrees-latest (grown-agrees R calls)
+  pub running-latest : (calls : List Call) → latest-of (running calls) ≡ seen calls .clock .latest
+  running-latest calls =
+      ap (λ (k : Clock). k .latest) (ap (λ (c : Cuts Lengths). c .clock) (running-stands calls) ∙ agrees-clock (grown-agrees R calls))
 
   -- the refusal is that of the table over the history
   pub running-number : (calls : List Call) (c : Call) → stepped-of (running calls) c .answer .refusal ≡ refusal (meant p) (seen calls) c

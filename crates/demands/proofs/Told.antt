@@ -56,7 +56,7 @@ module _ (p : Property) (good : property-refusal (meant p) ≡ 0) where
 
   -- The verdict that a gap mark answers is not above the one that the run, followed by the lost lines, would have had.
   pub closed-stays : (calls : List Call) (logged behind : List Event) → kept q fresh calls ≡ fed logged → Premises (logged ++ behind)
-      → seen p good calls .is-blind ≡ false → (g : Mark) (w : Verdict) → IsVerdict q (seen p good calls .run ++ all-lines behind) w
+      → seen p good calls .clock .is-blind ≡ false → (g : Mark) (w : Verdict) → IsVerdict q (seen p good calls .run ++ all-lines behind) w
       → stepped-of (running p good calls) (Call.mark g) .answer .verdict ≤ verdict-number w
   closed-stays calls logged behind e premises is-open g w h =
       let R = lengths-reading q good in
@@ -124,14 +124,15 @@ module _ (p : Property) (good : property-refusal (meant p) ≡ 0) where
       (v : Verdict) × Standing q (watched q fresh (before ++ entry-call (r .entry) ∷ [])) v × (r .verdict ≡ verdict-number v)
       × Stands (before ++ entry-call (r .entry) ∷ []) rows
 
-  not-below : (calls : List Call) (n : ℕ) (v : Verdict) → Standing q (watched q fresh calls) v → watched q fresh calls .is-blind ≡ false → n ≤ verdict-number v
-      → (rows : List Row) → Stands calls rows → NotBelow n rows
+  not-below : (calls : List Call) (n : ℕ) (v : Verdict) → Standing q (watched q fresh calls) v → watched q fresh calls .clock .is-blind ≡ false
+      → n ≤ verdict-number v → (rows : List Row) → Stands calls rows → NotBelow n rows
   unfolding NotBelow
   not-below calls n v h o le [] st = tt
   not-below calls n v h o le (r ∷ rows) st = by (r .entry) st (λ l w k a m s. not-below (calls ++ Call.line l ∷ []) n w k a m rows s)
     where
       On : Type 0
-      On = (l : Line) (w : Verdict) → Standing q (watched q fresh (calls ++ Call.line l ∷ [])) w → watched q fresh (calls ++ Call.line l ∷ []) .is-blind ≡ false
+      On = (l : Line) (w : Verdict) → Standing q (watched q fresh (calls ++ Call.line l ∷ [])) w
+          → watched q fresh (calls ++ Call.line l ∷ []) .clock .is-blind ≡ false
           → n ≤ verdict-number w → Stands (calls ++ Call.line l ∷ []) rows → NotBelow n rows
 
       on-line : (l : Line) → (w : Verdict) × Standing q (watched q fresh (calls ++ Call.line l ∷ [])) w × (r .verdict ≡ verdict-number w) × Stands (calls ++ Call.line l ∷ []) rows
@@ -147,10 +148,11 @@ module _ (p : Property) (good : property-refusal (meant p) ≡ 0) where
       by (Entry.output k t) st on = on-line _ st on
       by (Entry.gap k t) st on = tt
 
-  was-open : (calls : List Call) (v : Verdict) → Standing q (watched q fresh calls) v → verdict-number v < 3 → watched q fresh calls .is-blind ≡ false
-  was-open calls v h small = by (watched q fresh calls .is-blind) refl
+  was-open : (calls : List Call) (v : Verdict) → Standing q (watched q fresh calls) v → verdict-number v < 3
+      → watched q fresh calls .clock .is-blind ≡ false
+  was-open calls v h small = by (watched q fresh calls .clock .is-blind) refl
     where
-      by : (b : Bool) → watched q fresh calls .is-blind ≡ b → watched q fresh calls .is-blind ≡ false
+      by : (b : Bool) → watched q fresh calls .clock .is-blind ≡ b → watched q fresh calls .clock .is-blind ≡ false
       by false e = e
       by true e = absurd (omega (arith, says-blind p good (watched q fresh calls) v e h, small))
 
@@ -175,7 +177,8 @@ module _ (p : Property) (good : property-refusal (meant p) ≡ 0) where
   told-stands calls (Entry.gap k t) z =
       let c : Call = entry-call (Entry.gap k t) in
       let v = standing-told p good (calls ++ c ∷ []) in
-      let blind : seen p good (calls ++ c ∷ []) .is-blind ≡ true = ap (λ x. x .is-blind) (seen-taken p good calls c (sym (running-number p good calls c) ∙ z)) in
+      let blind : seen p good (calls ++ c ∷ []) .clock .is-blind ≡ true =
+      ap (λ x. x .clock .is-blind) (seen-taken p good calls c (sym (running-number p good calls c) ∙ z)) in
       sym (says-blind p good (seen p good (calls ++ c ∷ [])) (v .0) blind (v .1)) ∙ sym (v .2) ∙ ap standing (running-next p good calls c)
 
   walk-stands : (calls : List Call) (entries : List Entry) → TakenOneByOne (running p good calls) (calls-of entries) → Stands calls (walk-rows (running p good calls) entries)

@@ -2,15 +2,16 @@
 use Prim.Native.Nat.{ℕ, zero, suc, _+_, _-_, _*_, _≤_}
 use mathlib.Core.Path.{_≡_, refl, sym, _∙_, ap, ap₂, subst}
 use mathlib.Core.Logic.{inl, inr}
-use mathlib.Core.Bool.{Bool, true, false, cond}
+use mathlib.Core.Bool.{true, false, cond}
 use mathlib.Core.List.{List, [], _∷_}
 use native.Mathlib.Omega.{arith}
 use lib.ListN.{length, drop}
 use lib.Dec.{eqb}
-use Rattle.meaning.specs.Calls.{Call, beyond}
+use Rattle.meaning.specs.Calls.{Call}
 use Rattle.meaning.specs.Matcher.{Lengths}
 use Rattle.meaning.specs.Step.{Cuts}
 use Rattle.meaning.specs.History.{stamp-of as call-stamp}
+use Rattle.meaning.proofs.Clocks.{by-time-each}
 use Rattle.property.specs.Meant.{meant}
 use Rattle.property.specs.declared.Property.{Property}
 use Rattle.record_form.specs.Record.{Reader, ReadBy, RecordAnswer, record-size, record-answer, case-of}
@@ -21,7 +22,7 @@ use Rattle.record_form.specs.declared.RecordRead.{RecordRead}
 use Rattle.record_form.specs.declared.RecordRead.the-variants.{Input, Output, Gap, End as RecordEnd, Refused as RecordRefused}
 use Rattle.trace_form.proofs.ReadAs.{read-case, refused-given, fields-read}
 use Rattle.trace_form.proofs.Reader.{Reads, record-reads}
-use Rattle.cuts.specs.Steps.{front-after, front-fresh, front-none, taken-by}
+use Rattle.cuts.specs.Steps.{taken-by}
 use Rattle.session_record.specs.declared.Session.{Session}
 use Rattle.session_record.specs.declared.Stepped.{Stepped}
 use Rattle.session_record.specs.Record.{latest-of, cuts-of, out-of-range}
@@ -59,16 +60,9 @@ front {size} {reader} reads s before = subst (Front reader s before) (sym (read-
         refused n (r .1) (r .0)
 
 -- a taken call leaves its stamp as the latest
-taken-latest : (p : Property) (c : Cuts Lengths) (k : Call) → taken-by p c k .latest ≡ call-stamp k
-taken-latest p c (Call.line l) = go (c .is-blind) (beyond (meant p) (c .latest) (l .stamp))
-  where
-    go : (b d : Bool)
-        → (cond {A = Cuts Lengths} b
-        (cond d (record { is-blind = false; front = front-after p (front-fresh p) l; latest = l .stamp }) (record { is-blind = true; front = front-none p; latest = l .stamp }))
-        (record { is-blind = false; front = front-after p (c .front) l; latest = l .stamp })) .latest ≡ l .stamp
-    go true true = refl
-    go true false = refl
-    go false d = refl
+taken-latest : (p : Property) (c : Cuts Lengths) (k : Call) → taken-by p c k .clock .latest ≡ call-stamp k
+taken-latest p c (Call.line l) =
+    by-time-each (meant p) (c .clock) (l .stamp) _ _ _ (λ (x : Cuts Lengths). x .clock .latest ≡ l .stamp) (λ e f. refl) (λ e f. refl) (λ e. refl)
 taken-latest p c (Call.mark g) = refl
 
 pub entry-stamp : (e : Entry) → call-stamp (entry-call e) ≡ stamp-of e

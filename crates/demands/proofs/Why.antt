@@ -11,7 +11,7 @@ use Rattle.meaning.specs.Words.{Line, Run}
 use Rattle.meaning.specs.Words
 use Rattle.meaning.specs.Node.{Given, Verdict, verdict-number, IsVerdict}
 use Rattle.meaning.specs.Numbers.{given, first-of, property-refusal}
-use Rattle.meaning.specs.Calls.{Call, Watch, fresh, watched, AllTaken, Standing}
+use Rattle.meaning.specs.Calls.{Call, fresh-clock, Watch, fresh, watched, AllTaken, Standing}
 use Rattle.meaning.proofs.Refusals.{first-of-none}
 use Rattle.reasons.specs.Reasons.{Earliest, Names, line-numbers, lines-refusal}
 use Rattle.reasons.proofs.Reached.{one-verdict, reached-clear}
@@ -162,7 +162,7 @@ demand-why p ls l l2 r m m2 h e = go (why-refusal p ls l l2) refl h
         let parts = taken-parts p ls l l2 q in
         let none : lines-refusal (meant p) fresh (run-of ls) ≡ 0 =
         first-of-none (lines-refusal (meant p) fresh (run-of ls)) (first-of-none (given 7 (uneven ls)) (first-of-none (property-refusal (meant p)) q .1) .1) .0 in
-        let t = takes-all (meant p) [] (run-of ls) 0 none in
+        let t = takes-all (meant p) [] (run-of ls) fresh-clock none in
         let v : h .line .verdict ≡ h .verdict =
         one-verdict (meant p) (parts .0) (run-of ls) (parts .1) (h .line .verdict) (h .verdict) (h .line .whole) (h .exact) in
         record {

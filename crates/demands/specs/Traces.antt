@@ -77,7 +77,7 @@ met p w bytes (ReadAs.call c) on = first-of (refusal p w c) (on (taken p w c))
 unfoldable pub first-met : ℕ → Property → Watch → List ℕ → ℕ
 first-met zero p w bytes = 7
 first-met (suc more) p w bytes =
-    met p w bytes (read-as (record-answer bytes (w .latest))) (λ after. first-met more p after (drop record-size bytes))
+    met p w bytes (read-as (record-answer bytes (w .clock .latest))) (λ after. first-met more p after (drop record-size bytes))
 
 -- Records written one behind the other with the promised writer, and then the end record.
 unfoldable pub written-through : ℕ → List Entry → List ℕ → List ℕ

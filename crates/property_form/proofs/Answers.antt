@@ -1,6 +1,6 @@
 -- The answers of reader and writer, by the refusal.
 use Prim.Native.Nat.{ℕ, _≤_, _<_}
-use mathlib.Core.Path.{_≡_, refl, sym, ap₂, _∙_}
+use mathlib.Core.Path.{_≡_, refl, sym, ap, ap₂, _∙_}
 use mathlib.Core.Bool.{Bool, true, false}
 use mathlib.Core.List.{List, _++_}
 use native.Mathlib.Omega.{arith}
@@ -66,6 +66,12 @@ refusal-read s = refl
 pub property-of-read : (s : List ℕ) → read-refusal s ≡ 0 → read s .property ≡ property-read s
 unfolding read
 property-of-read s e = unless-taken (read-refusal s) (property-read s) zeros e
+
+-- What was read without a refusal is a property that is taken.
+pub read-good : (s : List ℕ) (r : PropertyRead) → r ≡ read s → r .refusal ≡ 0 → property-refusal (meant (r .property)) ≡ 0
+read-good s r e z =
+    let none : read-refusal s ≡ 0 = sym (refusal-read s) ∙ sym (ap (λ (x : PropertyRead). x .refusal) e) ∙ z in
+    ap (λ (q : Property). property-refusal (meant q)) (ap (λ (x : PropertyRead). x .property) e ∙ property-of-read s none) ∙ not-refused s none
 
 pub taken-none : (s : List ℕ) → (read-refusal s ≡ 0 → ⊥) → 0 ≡ taken s
 unfolding taken

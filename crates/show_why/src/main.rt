@@ -3,50 +3,46 @@
 ghost use Prim.Native.Nat.{_+_, _^_, _≤_, _<_};
 ghost use mathlib.Core.Path.{_≡_};
 ghost use Rattle.reasons.specs.Reasons.{most-lines};
+ghost use Rattle.meaning.specs.Numbers.{property-refusal};
+ghost use Rattle.property.specs.Meant.{meant};
 ghost use Rattle.table.specs.Table.{IsTable};
-ghost use Rattle.session_record.specs.Step.{fresh-of};
-ghost use Rattle.session_record.specs.Lent.{in-arrays, Ready};
+ghost use Rattle.session_record.specs.Lent.{memory, Ready};
 ghost use Rattle.open_run.specs.Kept.{in-lines, Next, Open};
 use held::Status;
 use judged_rest::Reason;
 use libc::STDIN_FILENO;
 use limits::MOST_LINES;
-use open_run::Turn;
+use open_run::Noted;
 use property::Property;
-use session_record::Session;
+use rows::Words;
+use table::Table;
 use walk::Did;
 
 // Reads one record.
 fn next(
     fd: i32,
     p: Property,
-    table: &[u8; 4257],
-    held: &mut [u64; 64],
-    acts: &mut [u8; 64],
-    masks: &mut [u64; 65],
-    marks: &mut [u64; 65],
+    table: &Table,
+    rows: &mut [Words],
     status: Status,
     outputs: &mut [bool; 256],
     actions: &mut [u8; 256],
     stamps: &mut [u64; 256],
     count: usize,
-) -> Turn
-    requires { ⌜ Ready (in-arrays p (now held) (now acts) (now masks) (now marks) status) × IsTable p (now table) × (count + 1 < 2 ^ 64) ⌝ }
-    ensures { λ r. ⌜ Next (in-arrays p (now (held .entry)) (now (acts .entry)) (now (masks .entry)) (now (marks .entry)) status)
-        (in-lines (now (outputs .entry)) (now (actions .entry)) (now (stamps .entry)) count) (r .did)
-        (in-arrays p (now (held .exit)) (now (acts .exit)) (now (masks .exit)) (now (marks .exit)) (r .status))
+) -> Noted
+    requires { ⌜ Ready (memory p (now rows) status) × IsTable p (now table) × (count + 1 < 2 ^ 64) ⌝ }
+    ensures { λ r. ⌜ Next (memory p (now (rows .entry)) status)
+        (in-lines (now (outputs .entry)) (now (actions .entry)) (now (stamps .entry)) count) (r .did) (memory p (now (rows .exit)) (r .status))
         (in-lines (now (outputs .exit)) (now (actions .exit)) (now (stamps .exit)) (r .count)) ⌝ }
 {
     let mut bytes = [0u8; 6];
     let got = io::read_full(fd, &mut bytes);
-    let read = record_form::read_record(&bytes[..got], status.latest);
+    let clock = status.clock;
+    let read = record_form::read_record(&bytes[..got], clock.latest);
     open_run::take(
         p,
         table,
-        held,
-        acts,
-        masks,
-        marks,
+        rows,
         status,
         outputs,
         actions,
@@ -126,19 +122,16 @@ fn tell(p: Property, outputs: &[bool], actions: &[u8], stamps: &[u64], count: us
     found(r, &numbers, &moments, &numbers2, &moments2, count);
 }
 
-// Takes the records. The table is made once, and the arrays are lent from record to record. A proved loop has to end, and nothing says
+// Takes the records. The table is made once, and the rows are lent from record to record. A proved loop has to end, and nothing says
 // that the input does: the loop counts its turns down, from a number that no run uses up.
-fn records(fd: i32, s: Session)
-    requires { ⌜ Ready s × (s ≡ fresh-of (s .property) .session) ⌝ }
+fn records(fd: i32, p: Property)
+    requires { ⌜ property-refusal (meant p) ≡ 0 ⌝ }
 {
-    let p = s.property;
-    let shared = s.shared;
-    let row = s.row;
     let table = table::table(p);
-    let mut held = shared.held;
-    let mut acts = shared.acts;
-    let mut masks = row.masks;
-    let mut marks = row.marks;
+    let fresh = session::fresh(p);
+    let s = fresh.session;
+    let shared = s.shared;
+    let mut rows = session_record::rows_of(s);
     let mut status = shared.status;
     let mut outputs = [false; 256];
     let mut actions = [0u8; 256];
@@ -150,10 +143,7 @@ fn records(fd: i32, s: Session)
             fd,
             p,
             &table,
-            &mut held,
-            &mut acts,
-            &mut masks,
-            &mut marks,
+            &mut rows,
             status,
             &mut outputs,
             &mut actions,
@@ -168,7 +158,8 @@ fn records(fd: i32, s: Session)
                 turns -= 1;
             }
             Did::Ended => {
-                if status.blind {
+                let clock = status.clock;
+                if clock.blind {
                     listing_shell::write(reason_text::blind());
                     return;
                 }
@@ -192,7 +183,5 @@ fn main() {
         stop(read.refusal);
         return;
     }
-    let p = read.property;
-    let fresh = session::fresh(p);
-    records(fd, fresh.session);
+    records(fd, read.property);
 }

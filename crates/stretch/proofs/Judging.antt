@@ -17,7 +17,7 @@ use Rattle.property.proofs.Refusal.{taken-bounds}
 use Rattle.property_form.specs.declared.PropertyRead.{PropertyRead}
 use Rattle.property_form.specs.Form.{form-size}
 use Rattle.property_form.specs.Read.{property-read, read, read-refusal, taken}
-use Rattle.property_form.proofs.Answers.{refusal-read, not-refused, property-of-read, taken-all}
+use Rattle.property_form.proofs.Answers.{refusal-read, property-of-read, read-good, taken-all}
 use Rattle.cuts.specs.Steps.{front-none, front-says, fresh-by, verdict-by}
 use Rattle.cuts.specs.Fronts.{front-of}
 use Rattle.session_record.specs.declared.Session.{Session}
@@ -82,9 +82,7 @@ module _ (property trace : List ℕ) (r : PropertyRead) (e : r ≡ read property
 
   -- what was read is a property that no refusal names
   pub taken-good : property-refusal (meant (r .property)) ≡ 0
-  taken-good =
-      let none : read-refusal property ≡ 0 = sym (refusal-read property) ∙ sym (ap (λ (x : PropertyRead). x .refusal) e) ∙ z in
-      ap (λ (q : Property). property-refusal (meant q)) (ap (λ (x : PropertyRead). x .property) e ∙ property-of-read property none) ∙ not-refused property none
+  taken-good = read-good property r e z
 
   pub taken-few : r .property .n < 64
   taken-few = omega (arith, taken-bounds (r .property) taken-good .most)

@@ -1,5 +1,5 @@
 -- `show_why::main` is safe: records are read behind a property that was taken.
-use Rattle.show_why.proofs.Going.{begins}
+use Rattle.property_form.proofs.Answers.{read-good}
 use borrow.Author.Needs.{needs}
 use Rattle.show_why.proofs.main.Statement.{statement}
 use Rattle.show_why.proofs.main.Tie as tie
@@ -25,13 +25,8 @@ stop-requires c κs = search needs
 returns : tie.Need-returns
 returns c = search needs
 
-fresh-requires : tie.Need-fresh-requires
-fresh-requires c κs = search needs
-
 records-requires : tie.Need-records-requires
-records-requires c κs =
-    let read = c .before .before in
-    begins _ _ _ (read .before .before .read-property .ensures) (read .if1 .left) (c .fresh .ensures)
+records-requires c κs = let k = c .before .before in read-good _ _ (k .read-property .ensures) (c .if1 .left)
 
 returns-2 : tie.Need-returns-2
 returns-2 c = search needs
@@ -47,6 +42,5 @@ main-spec =
     read-property-requires
     stop-requires
     returns
-    fresh-requires
     records-requires
     returns-2)

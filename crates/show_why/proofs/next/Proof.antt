@@ -12,6 +12,16 @@ use Rattle.show_why.proofs.next.Tie as tie
 few : (n : ℕ) (bytes : List ℕ) → n ≤ record-size → length (take n bytes) ≤ record-size
 few n bytes h = omega (arith, length-take n bytes, h)
 
+-- from the end back to the record that was read, and to the bytes that came
+abbrev lending : tie.After-rows → tie.After-take-arg2
+lending c = c .before .before .before .before
+
+abbrev reading : tie.After-rows → tie.After-read-record
+reading c = lending c .before .before
+
+abbrev came : tie.After-read-record → tie.After-read-full
+came k = k .before .before .before .before
+
 slice-aggregate-read-full : tie.Need-slice-aggregate-read-full
 slice-aggregate-read-full c = search needs
 
@@ -30,13 +40,15 @@ read-record-requires c κs = search needs
 take-requires : tie.Need-take-requires
 take-requires c κs = search needs
 
+same-length : tie.Need-same-length
+same-length c = search needs
+
 returns : tie.Need-returns
 returns c =
-    let read = c .before .before .before .before .before .before .before .before in
-    let got = read .before .before .before in
+    let read = reading c in
+    let got = came read in
     read-next _ (few (got .read-full .result) _ (omega (arith, got .read-full .ensures .0, got .read-full .kept .1 .0, slice-aggregate-read-full (got .before))))
-    (read .read-record .ensures)
-    (c .take .ensures)
+    (read .read-record .ensures) (c .before .take .ensures)
 
 pub next-spec : {M : Type 1} → statement M
 next-spec =
@@ -48,4 +60,5 @@ next-spec =
     slice-aggregate-read-record
     read-record-requires
     take-requires
+    same-length
     returns)

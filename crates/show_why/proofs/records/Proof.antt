@@ -1,61 +1,92 @@
--- `show_why::records` is safe and ends: the arrays are ready before each record, what is kept is the run that is open, and the turns that
+-- `show_why::records` is safe and ends: the rows are ready before each record, what is kept is the run that is open, and the turns that
 -- are left are fewer each time.
 use Prim.Native.Nat.{_-_, _≤_}
-use mathlib.Core.Path.{sym, subst}
+use mathlib.Core.Path.{_≡_, sym, subst}
 use native.Mathlib.Omega.{arith}
-use Rattle.session_record.specs.declared.Session.{Session}
-use Rattle.session_record.specs.Lent.{in-arrays}
-use Rattle.session_record.proofs.Range.{ranged}
+use lib.ListN.{length}
+use Rattle.session_record.specs.Lent.{Memory, memory}
+use Rattle.session_record.proofs.Ready.{fresh-means, fresh-ready}
 use Rattle.line_text.specs.declared.Text.{Text}
 use Rattle.line_text.specs.Text.{room}
 use Rattle.line_text.proofs.Held.{text-len}
 use Rattle.reason_text.proofs.Fits.{blind-fits}
-use borrow.Author.Needs.{needs}
-use Rattle.open_run.specs.Kept.{Lines, in-lines}
+use Rattle.open_run.specs.Kept.{Places, in-lines}
 use Rattle.open_run.proofs.Keeping.{keeps-fresh}
 use Rattle.show_why.proofs.Going.{Going, going-fresh, going-on, going-open}
+use borrow.Author.Needs.{needs}
 use Rattle.show_why.proofs.records.Statement.{statement}
 use Rattle.show_why.proofs.records.Tie as tie
 
 abbrev Inv-loop : tie.InvT-loop
-Inv-loop fd p table held₀ acts₀ masks₀ marks₀ status₀ outputs₀ actions₀ stamps₀ count₀ turns₀ held acts masks marks status outputs actions stamps count turns =
-    Going p (in-arrays p held acts masks marks status) (in-lines outputs actions stamps count) turns
+Inv-loop fd p table rows₀ status₀ outputs₀ actions₀ stamps₀ count₀ turns₀ rows status outputs actions stamps count turns =
+    Going (memory p rows status) (in-lines outputs actions stamps count) turns × (length rows ≡ 4)
 
 abbrev μ-loop : tie.MeasureT-loop
-μ-loop fd p table held₀ acts₀ masks₀ marks₀ status₀ outputs₀ actions₀ stamps₀ count₀ turns₀ held acts masks marks status outputs actions stamps count turns =
+μ-loop fd p table rows₀ status₀ outputs₀ actions₀ stamps₀ count₀ turns₀ rows status outputs actions stamps count turns =
     turns
 
+-- from a record back to the turn of the loop and the entry
+abbrev turning : tie.After-stamps Inv-loop μ-loop → tie.In-loop Inv-loop μ-loop
+turning c = c .before .before .before .before .before
+
+abbrev turn : tie.After-next Inv-loop μ-loop → tie.In-loop Inv-loop μ-loop
+turn k = turning (k .before)
+
+abbrev made : tie.At-loop Inv-loop μ-loop → tie.After-fresh Inv-loop μ-loop
+made t = t .before .before .before .before .before
+
+abbrev start : tie.After-next Inv-loop μ-loop → tie.Start Inv-loop μ-loop
+start k = made (turn k .before) .before .before
+
+-- from what it did back to it
+abbrev told : tie.At-match-keys1 Inv-loop μ-loop → tie.After-next Inv-loop μ-loop
+told c = c .before .before .before
+
+abbrev ended : tie.Else1 Inv-loop μ-loop → tie.After-next Inv-loop μ-loop
+ended e = let m = e .before .before in m .before .before .before .before
+
+-- what it has led to
+abbrev after : tie.After-next Inv-loop μ-loop → Memory
+after k = memory (start k .args .p) (k .next .last .1 .1 .1 .0) (k .next .result .status)
+
+abbrev lines : tie.After-next Inv-loop μ-loop → Places
+lines k =
+    let last = k .next .last .1 .1 .1 .1 .1 in
+    in-lines (last .0) (last .1 .0) (last .1 .1 .0) (k .next .result .count)
+
+gone : (k : tie.After-next Inv-loop μ-loop) → Going (after k) (lines k) (turn k .before .loop .turns - 1)
+gone k = going-on _ _ _ (turn k .loop-test .taken) (turn k .before .loop .inv .0) (k .next .ensures)
+
 table-requires : tie.Need-table-requires Inv-loop μ-loop
-table-requires c κs = ranged _ (c .before .before .before .pre .0 .fits) .formed
+table-requires c κs = search needs
+
+fresh-requires : tie.Need-fresh-requires Inv-loop μ-loop
+fresh-requires c κs = search needs
+
+rows-of-requires : tie.Need-rows-of-requires Inv-loop μ-loop
+rows-of-requires c κs = search needs
 
 loop-holds : tie.Need-loop-holds Inv-loop μ-loop
 loop-holds c =
-    let start = c .before .before .before .before .before .before .before .before .before in
-    going-fresh _ _ _ (start .pre .0) (start .pre .1) keeps-fresh (omega arith)
+    let k = c .before in
+    let f = k .before .before .before in
+    let b = f .before .before in
+    let r = f .fresh in
+    let rows = k .rows-of in (
+      going-fresh (b .args .p) (b .pre) (rows .result) (r .result .session .shared .status) _ _
+          (fresh-ready (b .args .p) (b .pre) (r .result) (r .ensures) (rows .result) (rows .ensures .0) (rows .ensures .2))
+          (fresh-means (b .args .p) (b .pre) (r .result) (r .ensures) (rows .result) (rows .ensures .0)) keeps-fresh (omega arith),
+      rows .ensures .1,
+    )
+
+slice-aggregate-next : tie.Need-slice-aggregate-next Inv-loop μ-loop
+slice-aggregate-next c = search needs
 
 next-requires : tie.Need-next-requires Inv-loop μ-loop
 next-requires c κs =
-    let b = c .before .before .before .before .before .before .before .before in
-    let g = b .before .loop .inv in
-    (g .ready, b .before .before .before .before .before .before .before .table .ensures, omega (arith, g .left, b .loop-test .taken))
-
--- what the record that was read has led to
-abbrev turn : tie.After-next Inv-loop μ-loop → tie.In-loop Inv-loop μ-loop
-turn k = k .before .before .before .before .before .before .before .before .before
-
-abbrev after : tie.After-next Inv-loop μ-loop → Session
-after k =
-    let start = turn k .before .before .before .before .before .before .before .before .before .before .before in
-    let last = k .next .last .1 .1 .1 in
-    in-arrays (start .args .s .property) (last .0) (last .1 .0) (last .1 .1 .0) (last .1 .1 .1 .0) (k .next .result .status)
-
-abbrev lines : tie.After-next Inv-loop μ-loop → Lines
-lines k =
-    let last = k .next .last .1 .1 .1 .1 .1 .1 .1 .1 in
-    in-lines (last .0) (last .1 .0) (last .1 .1 .0) (k .next .result .count)
-
-gone : (k : tie.After-next Inv-loop μ-loop) → Going (after k .property) (after k) (lines k) (turn k .before .loop .turns - 1)
-gone k = going-on _ _ _ (turn k .loop-test .taken) (turn k .before .loop .inv) (k .next .ensures)
+    let t = turning c in
+    let g = t .before .loop .inv .0 in
+    (g .ready, made (t .before) .before .table .ensures, omega (arith, g .left, t .loop-test .taken))
 
 enum-told : tie.Need-enum-told Inv-loop μ-loop
 enum-told c = search needs
@@ -67,7 +98,7 @@ loop-less : tie.Need-loop-less Inv-loop μ-loop
 loop-less c = omega arith
 
 loop-again : tie.Need-loop-again Inv-loop μ-loop
-loop-again c = gone (c .before .before .before)
+loop-again c = let k = told (c .before) in (gone k, search needs)
 
 enum-told-2 : tie.Need-enum-told-2 Inv-loop μ-loop
 enum-told-2 c = search needs
@@ -82,16 +113,16 @@ returns : tie.Need-returns Inv-loop μ-loop
 returns c = tt
 
 slice-aggregate-tell : tie.Need-slice-aggregate-tell Inv-loop μ-loop
-slice-aggregate-tell c = sym (gone (c .before .before .before .before .before) .stands .keeps .outputs-long)
+slice-aggregate-tell c = let e = c .before in sym (gone (ended e) .stands .keeps .outputs-long)
 
 slice-aggregate-tell-2 : tie.Need-slice-aggregate-tell-2 Inv-loop μ-loop
-slice-aggregate-tell-2 c = sym (gone (c .before .before .before .before .before .before) .stands .keeps .actions-long)
+slice-aggregate-tell-2 c = let e = c .before .before in sym (gone (ended e) .stands .keeps .actions-long)
 
 slice-aggregate-tell-3 : tie.Need-slice-aggregate-tell-3 Inv-loop μ-loop
-slice-aggregate-tell-3 c = sym (gone (c .before .before .before .before .before .before .before) .stands .keeps .stamps-long)
+slice-aggregate-tell-3 c = let e = c .before .before .before in sym (gone (ended e) .stands .keeps .stamps-long)
 
 tell-requires : tie.Need-tell-requires Inv-loop μ-loop
-tell-requires c κs = going-open _ _ _ (gone (c .before .before .before .before .before .before .before)) (c .before .before .before .if1 .left)
+tell-requires c κs = let e = c .before .before .before in going-open _ _ _ (gone (ended e)) (e .if1 .left)
 
 returns-2 : tie.Need-returns-2 Inv-loop μ-loop
 returns-2 c = tt
@@ -115,7 +146,10 @@ records-spec =
     Inv-loop
     μ-loop
     table-requires
+    fresh-requires
+    rows-of-requires
     loop-holds
+    slice-aggregate-next
     next-requires
     enum-told
     sub-turns
