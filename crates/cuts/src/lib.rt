@@ -19,8 +19,8 @@ ghost use Rattle.cuts.specs.Steps.{line-of, front-after, front-says};
 ghost use Rattle.cuts.specs.Fronts.{cut-at, with-cut, front-of, Usable, Holds, Swept, SweptOne, Appended};
 use matcher::Cut;
 use property::Property;
-use rows::Words;
 use rows::Span;
+use rows::Words;
 use table::Table;
 
 // "there are never more than sixty-five cuts to hold": the matched lengths of each as a mask, and the armed ones beside it.

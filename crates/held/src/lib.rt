@@ -8,8 +8,8 @@ ghost use Rattle.meaning.specs.Limits.{last-bound, last-stamp};
 ghost use Rattle.rows.specs.Rows.{Room, word};
 ghost use Rattle.held.specs.Held.{with-input, Closes, stamps-fall};
 use clock::Clock;
-use rows::Words;
 use rows::Span;
+use rows::Words;
 
 // What stands beside the rows: which of their places are in use, and the clock.
 pub struct Status {

@@ -19,7 +19,7 @@ use Rattle.cuts.proofs.sweep.Statement.{statement}
 use Rattle.cuts.proofs.sweep.Tie as tie
 
 abbrev Inv-loop : tie.InvT-loop
-Inv-loop p table rows₀ span j action stamp count cut₀ i₀ rows cut i = 
+Inv-loop p table rows₀ span j action stamp count cut₀ i₀ rows cut i =
     (i ≤ span .count) × Sweeping p rows₀ span j action stamp i rows × (set-of cut ≡ new-set p rows₀ span j action stamp i) × Fits p cut
 
 abbrev μ-loop : tie.MeasureT-loop
