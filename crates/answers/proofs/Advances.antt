@@ -26,7 +26,7 @@ use Rattle.held.specs.Held.{Closes}
 use Rattle.cuts.specs.Steps.{line-of, front-after, front-fresh, front-none, front-says, verdict-by, refusal-by, told-by, says}
 use Rattle.cuts.specs.Fronts.{with-cut, front-of, Holds}
 use Rattle.cuts.proofs.Lines.{open-at-output, open-at-input, holds-one}
-use Rattle.session_record.specs.declared.Told.{Told}
+use Rattle.session_record.specs.declared.Reply.{Reply}
 use Rattle.session_record.specs.declared.Answer.{Answer}
 use Rattle.session_record.specs.Step.{answer-of}
 use Rattle.session_record.specs.Lent.{Memory, memory, held-in, Ready, Advanced, LineTaken}
@@ -35,7 +35,7 @@ use Rattle.session_record.proofs.Ready.{blind-ready, open-ready, call-refused, 
 use Rattle.answers.proofs.Lines.{Comes, line-skipped, line-first, line-next, line-crowded}
 
 -- The call leads to these rows and what is given back beside them.
-abbrev pub Leads : Memory → Call → List (List ℕ) → Told → Type 0
+abbrev pub Leads : Memory → Call → List (List ℕ) → Reply → Type 0
 Leads m k rows r = Advanced m k (r .answer) (memory (m .property) rows (r .status))
 
 module _ (m : Memory) (ready : Ready m) where
@@ -52,13 +52,13 @@ module _ (m : Memory) (ready : Ready m) where
   front-if b e = ap (λ (x : Bool). cond x (front-none p) own) e
 
   -- A call refused.
-  pub refused-leads : (k : Call) (n : ℕ) → refusal-by p c k ≡ n → (n ≡ 0 → ⊥) → (r : Told) → r ≡ record { answer = answer-of (Calls.refused n); status = m .status }
+  pub refused-leads : (k : Call) (n : ℕ) → refusal-by p c k ≡ n → (n ≡ 0 → ⊥) → (r : Reply) → r ≡ record { answer = answer-of (Calls.refused n); status = m .status }
       → Leads m k (m .rows) r
   refused-leads k n e h r q = subst (Leads m k (m .rows)) (sym q) (call-refused m ready k n e h)
 
   -- A call after which no run is open: the rows are as they were.
   blind-leads : (k : Call) (clock : Calls.Clock) → clock .is-blind ≡ true → Comes p c k (record { clock = clock; front = front-none p })
-      → (a : Answer) → a ≡ answer-of (told-by p c k) → (r : Told) → r ≡ record { answer = a; status = record { span = none; clock = stored-clock clock } }
+      → (a : Answer) → a ≡ answer-of (told-by p c k) → (r : Reply) → r ≡ record { answer = a; status = record { span = none; clock = stored-clock clock } }
       → Leads m k (m .rows) r
   blind-leads k clock b w a told r q = subst (Leads m k (m .rows)) (sym q) (call-taken m ready k a after refl (w .none) (w .taken ∙ held) told is-ready)
     where
@@ -84,7 +84,7 @@ module _ (m : Memory) (ready : Ready m) where
     comes-told after w = ap (λ (x : Cuts Lengths). answer-of (says p (verdict-by p x) (length (x .front .held)))) (sym (w .taken))
 
     -- a line skipped
-    pub skipped-leads : c .clock .is-blind ≡ true → beyond (meant p) (c .clock) stamp ≡ false → (clock : Clock) → clock ≡ stored-clock (ticked (c .clock) l true) → (r : Told)
+    pub skipped-leads : c .clock .is-blind ≡ true → beyond (meant p) (c .clock) stamp ≡ false → (clock : Clock) → clock ≡ stored-clock (ticked (c .clock) l true) → (r : Reply)
         → r ≡ record { answer = record { refusal = 0; verdict = 3; open_count = 0 }; status = record { span = none; clock = clock } } → Leads m k (m .rows) r
     skipped-leads e far clock t r q =
         let w = line-skipped p c output action stamp n number zero e far in
@@ -93,7 +93,7 @@ module _ (m : Memory) (ready : Ready m) where
 
     -- a line of a run, taken
     run-leads : (f : Front Lengths) → Comes p c k (record { clock = ticked (c .clock) l false; front = f }) → (clock : Clock) → clock ≡ stored-clock (ticked (c .clock) l false)
-        → (rows : List (List ℕ)) (r : Told) → LineTaken p f clock rows r → Leads m k rows r
+        → (rows : List (List ℕ)) (r : Reply) → LineTaken p f clock rows r → Leads m k rows r
     run-leads f w clock t rows r y =
         call-taken m ready k (r .answer) (memory p rows (r .status)) refl (w .none) (w .taken ∙ held) (y .answered ∙ comes-told _ w)
         (open-ready (memory p rows (r .status)) (y .holds .usable) (ap (λ (x : Clock). x .blind) stamped) (subst (Fit p) (w .taken ∙ held) (taken-fits m ready k (w .none))))
@@ -114,7 +114,7 @@ module _ (m : Memory) (ready : Ready m) where
         (short-fits p (ready .ranged .formed) at-start (start-short (meant p)))))
 
     pub begun-leads : c .clock .is-blind ≡ true → beyond (meant p) (c .clock) stamp ≡ true → (clock : Clock) → clock ≡ stored-clock (ticked (c .clock) l false)
-        → (g : Front Lengths) → g ≡ front-fresh p → (rows : List (List ℕ)) (r : Told) → LineTaken p (front-after p g l) clock rows r → Leads m k rows r
+        → (g : Front Lengths) → g ≡ front-fresh p → (rows : List (List ℕ)) (r : Reply) → LineTaken p (front-after p g l) clock rows r → Leads m k rows r
     begun-leads e far clock t g q rows r y =
         run-leads (front-after p (front-fresh p) l) (line-first p c output action stamp n number zero e far) clock t rows r
         (subst (λ (x : Front Lengths). LineTaken p (front-after p x l) clock rows r) q y)
@@ -135,7 +135,7 @@ module _ (m : Memory) (ready : Ready m) where
       crowded-is h = line-crowded p c output action stamp n number zero e (subst (λ (x : ℕ). most-open < x) open-is h)
 
       pub next-leads : m .status .span .count - d + cond output 0 1 ≤ most-open → (clock : Clock) → clock ≡ stored-clock (ticked (c .clock) l false)
-          → (rows : List (List ℕ)) (r : Told) → LineTaken p (front-after p own l) clock rows r → Leads m k rows r
+          → (rows : List (List ℕ)) (r : Reply) → LineTaken p (front-after p own l) clock rows r → Leads m k rows r
       next-leads h clock t rows r y =
           run-leads (front-after p (c .front) l) (line-next p c output action stamp n number zero e (subst (λ (x : ℕ). x ≤ most-open) open-is h)) clock t rows r
           (subst (λ (x : Front Lengths). LineTaken p (front-after p x l) clock rows r) (sym (front-if false e)) y)
@@ -146,7 +146,7 @@ module _ (m : Memory) (ready : Ready m) where
     abbrev g : Call
     g = mark-at lost stamp
 
-    mark-leads : (v : ℕ) → v ≡ verdict-number (verdict-by p c) → (r : Told)
+    mark-leads : (v : ℕ) → v ≡ verdict-number (verdict-by p c) → (r : Reply)
         → r ≡ record { answer = record { refusal = 0; verdict = v; open_count = 0 }; status = record { span = none; clock = clock } } → Leads m g (m .rows) r
     mark-leads v e r q =
         blind-leads g (marked (c .clock) (record { lost = lost; stamp = stamp })) refl (record { none = sym number ∙ zero; taken = refl }) _
@@ -156,10 +156,10 @@ module _ (m : Memory) (ready : Ready m) where
     verdict-if : (b : Bool) → c .clock .is-blind ≡ b → cond b Verdict.blind (front-says p (cond b (front-none p) own)) ≡ verdict-by p c
     verdict-if b e = ap (λ (x : Bool). cond x Verdict.blind (front-says p (cond x (front-none p) own))) (sym e)
 
-    pub marked-blind : c .clock .is-blind ≡ true → (r : Told)
+    pub marked-blind : c .clock .is-blind ≡ true → (r : Reply)
         → r ≡ record { answer = record { refusal = 0; verdict = 3; open_count = 0 }; status = record { span = none; clock = clock } } → Leads m g (m .rows) r
     marked-blind e r q = mark-leads 3 (ap verdict-number (verdict-if true e)) r q
 
-    pub marked-open : c .clock .is-blind ≡ false → (v : ℕ) → v ≡ verdict-number (front-says p own) → (r : Told)
+    pub marked-open : c .clock .is-blind ≡ false → (v : ℕ) → v ≡ verdict-number (front-says p own) → (r : Reply)
         → r ≡ record { answer = record { refusal = 0; verdict = v; open_count = 0 }; status = record { span = none; clock = clock } } → Leads m g (m .rows) r
     marked-open e v h r q = mark-leads v (h ∙ ap verdict-number (verdict-if false e)) r q

@@ -14,7 +14,7 @@ use clock::Clock;
 use held::Status;
 use limits::LAST_ACTION;
 use session_record::Answer;
-use session_record::Told;
+use session_record::Reply;
 
 // The answer to a call that is taken.
 pub fn taken(verdict: u8, count: usize) -> Answer
@@ -28,24 +28,24 @@ pub fn taken(verdict: u8, count: usize) -> Answer
 }
 
 // "a session given comes back as it was"
-pub fn unmoved(number: u64, status: Status) -> Told
+pub fn unmoved(number: u64, status: Status) -> Reply
     ensures { λ r. ⌜ r ≡ record { answer = answer-of (Calls.refused number); status = status } ⌝ }
 {
-    Told {
+    Reply {
         answer: session_record::refused(number),
         status: status,
     }
 }
 
 // No run is open.
-pub fn blinded(verdict: u8, clock: Clock) -> Told
+pub fn blinded(verdict: u8, clock: Clock) -> Reply
     ensures { λ r. ⌜ r ≡ record { answer = record { refusal = 0; verdict = verdict; open_count = 0 }; status = record { span = none; clock = clock } } ⌝ }
 {
     let status = Status {
         span: rows::spanning(0),
         clock: clock,
     };
-    Told {
+    Reply {
         answer: taken(verdict, 0),
         status: status,
     }

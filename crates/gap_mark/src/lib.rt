@@ -7,10 +7,10 @@ use answers::unmoved;
 use held::Status;
 use property::Property;
 use rows::Words;
-use session_record::Told;
+use session_record::Reply;
 
 // A gap mark, with the number of lost lines.
-pub fn mark(p: Property, rows: &[Words], status: Status, lost: u8, stamp: u64) -> Told
+pub fn mark(p: Property, rows: &[Words], status: Status, lost: u8, stamp: u64) -> Reply
     requires { ⌜ Ready (memory p (now rows) status) ⌝ }
     ensures { λ r. ⌜ Advanced (memory p (now (rows .entry)) status) (mark-at lost stamp) (r .answer) (memory p (now (rows .entry)) (r .status)) ⌝ }
 {

@@ -15,7 +15,7 @@ use property::Property;
 use rows::Words;
 use run_line::begin;
 use run_line::run_on;
-use session_record::Told;
+use session_record::Reply;
 use table::Table;
 
 // A line.
@@ -27,7 +27,7 @@ pub fn line(
     output: bool,
     action: u8,
     stamp: u64,
-) -> Told
+) -> Reply
     requires { ⌜ Ready (memory p (now rows) status) × IsTable p (now table) ⌝ }
     ensures { λ r. ⌜ Advanced (memory p (now (rows .entry)) status) (Call.line (line-of output action stamp)) (r .answer) (memory p (now (rows .exit)) (r .status)) ⌝ }
 {

@@ -1,7 +1,7 @@
 -- The judgement's loop on lent memory: where it starts, and a turn of it.
 use Prim.Native.Nat.{ℕ, suc, _+_, _<_}
 use mathlib.Core.Path.{_≡_, sym, ap, _∙_, subst}
-use mathlib.Core.Bool.{cond}
+use mathlib.Core.Bool.{true≢false, cond}
 use mathlib.Core.List.{List}
 use native.Mathlib.Omega.{arith}
 use lib.ListN.{length}
@@ -52,7 +52,7 @@ module _ (p : Property) (good : property-refusal (meant p) ≡ 0) (c : Cut) (fit
         order = ended {t = 0} {e = 0} (omega arith);
         short = record { before = fits-short p good c fits; held = done };
         limit = omega arith;
-        none-blind = λ b. let z : _≡_ {A = ℕ} 0 1 = cc in let w : ⊥ = omega arith in absurd w;
+        none-blind = λ b. absurd (true≢false (sym b));
       }
 
   -- the judgement has begun, and a line can start

@@ -8,7 +8,7 @@ use held::Status;
 use property::Property;
 use record_form::RecordRead;
 use rows::Words;
-use session_record::Told;
+use session_record::Reply;
 use table::Table;
 
 // A line or a gap mark on the session. An end and a refusal leave it as it was.
@@ -18,7 +18,7 @@ pub fn take(
     rows: &mut [Words],
     status: Status,
     read: RecordRead,
-) -> Told
+) -> Reply
     requires { ⌜ Ready (memory p (now rows) status) × IsTable p (now table) ⌝ }
     ensures { λ r. ⌜ Takes (memory p (now (rows .entry)) status) (case-as read) (r .answer) (memory p (now (rows .exit)) (r .status)) ⌝ }
 {

@@ -1,7 +1,7 @@
 -- The listing goes record by record as a walk does, and never meets refusal 10.
 use Prim.Native.Nat.{ℕ, zero, suc}
 use mathlib.Core.Path.{_≡_, refl, sym, _∙_, ap}
-use mathlib.Core.Bool.{Bool, true, false, cond}
+use mathlib.Core.Bool.{Bool, true, false, true≢false, cond}
 use mathlib.Core.List.{List}
 use native.Mathlib.Omega.{arith}
 use lib.ListN.{drop}
@@ -26,7 +26,6 @@ use Rattle.printout.specs.Text.{stop-text}
 use Rattle.printed.specs.declared.Printed.{Printed}
 use Rattle.printed.specs.Printed.{last-line, by-one, printed-by, printed-of, begun-of}
 use Rattle.printed.proofs.Listed.{not-named}
-use Rattle.printed.proofs.Tidied.{no}
 
 -- One record is a walk of one record: the session after it is the same, and the listing goes on exactly if it was taken.
 pub record AsWalked (s : Session) (count : ℕ) (bytes : List ℕ) : Type 0 where
@@ -85,6 +84,6 @@ stays-listed s count bytes e m =
     ∙ after (one-of s bytes) (one-step s bytes) (ap (λ (r : Printed). r .more) (sym (not-named record-answer s count bytes e)) ∙ m)
   where
     after : (o : One) → StepOf s o → by-one s count o .more ≡ true → out-of-range (by-one s count o .session) ≡ false
-    after One.ended k q = no (unfold by-one in q)
-    after (One.refused n) k q = no (unfold by-one in q)
+    after One.ended k q = absurd (true≢false (sym (unfold by-one in q)))
+    after (One.refused n) k q = absurd (true≢false (sym (unfold by-one in q)))
     after (One.took c t) k q = unfold by-one in (ap out-of-range (k .steps) ∙ stays-in-range s e c)

@@ -18,7 +18,7 @@ use held::Status;
 use property::Property;
 use rows::Span;
 use rows::Words;
-use session_record::Told;
+use session_record::Reply;
 use table::Table;
 
 // The one cut of a run with no line.
@@ -42,7 +42,7 @@ pub fn run_on(
     output: bool,
     action: u8,
     stamp: u64,
-) -> Told
+) -> Reply
     requires { ⌜ Usable p (now rows) span 0 × IsTable p (now table) ⌝ }
     requires { ⌜ Closes (p .ub) (now rows) span stamp closed × (stamp ≤ last-stamp) × (span .count - closed + cond output 0 1 ≤ most-open) ⌝ }
     ensures { λ r. ⌜ LineTaken p (front-after p (front-of (now (rows .entry)) span 0) (line-of output action stamp)) clock (now (rows .exit)) r ⌝ }
@@ -53,7 +53,7 @@ pub fn run_on(
         span: left,
         clock: clock,
     };
-    Told {
+    Reply {
         answer: taken(verdict, left.count),
         status: status,
     }

@@ -1,7 +1,7 @@
 -- Sessions over cuts whose record refusal 10 does not name: the record stands for the session, and each call leads to such a one.
 use Prim.Native.Nat.{ℕ, zero, suc, _≤_, _<_}
 use mathlib.Core.Path.{_≡_, refl, sym, ap, subst, _∙_}
-use mathlib.Core.Bool.{Bool, true, false, cond, not, _&&_}
+use mathlib.Core.Bool.{Bool, true, false, true≢false, cond, not, _&&_}
 use native.Mathlib.Omega.{arith}
 use borrow.Author.Tests.{eq-eqb, ltb-false, ltb-true, le-ltb}
 use lib.ListN.{length}
@@ -51,9 +51,6 @@ short-kept p =
       move = λ s l h. moved-short (meant p) s l;
     }
 
-not-both : {A : Type 0} → false ≡ true → A
-not-both e = let z : _≡_ {A = ℕ} 0 1 = cc in let w : ⊥ = omega arith in absurd w
-
 -- nothing is held while blind
 blind-fit : (p : Property) (k : Clock) → k .latest ≤ last-stamp → Fit p (record { clock = k; front = front-none p })
 blind-fit p k h =
@@ -72,7 +69,7 @@ fresh-fit p =
       order = ended {t = 0} {e = 0} (omega arith);
       short = fresh-throughout (meant p) (short-kept p);
       limit = omega arith;
-      none-blind = λ b. not-both b;
+      none-blind = λ b. absurd (true≢false (sym b));
     }
 
 -- memory that refusal 10 does not name stands for such a session
@@ -101,7 +98,7 @@ ranged-fit m r = go (m .status .clock .blind) refl
                     (λ i h. fits-short (m .property) (r .formed) (cut-at (m .rows) (m .status .span) 0 (suc i)) (r .fits e (suc i) (omega arith)));
               };
           limit = r .limit;
-          none-blind = λ b. not-both b;
+          none-blind = λ b. absurd (true≢false (sym b));
         }
 
 module _ (p : Property) (good : property-refusal (meant p) ≡ 0) where
@@ -188,7 +185,7 @@ module _ (p : Property) (good : property-refusal (meant p) ≡ 0) where
             order = order-with (meant p) (lengths (meant p)) g (l .action) (l .stamp) le order;
             short = with-throughout (meant p) (short-kept p) g l short;
             limit = in-time;
-            none-blind = λ b. not-both b;
+            none-blind = λ b. absurd (true≢false (sym b));
           }
   taken-fit {c} f (Call.mark g) e = blind-fit p _ (stamp-limit (c .clock) (g .stamp) (not-refused-mark (c .clock) g e))
 

@@ -1,7 +1,7 @@
 -- Memory that a call can start from: what its rows hold, and what a call refused or taken leaves.
 use Prim.Native.Nat.{ℕ, suc, _≤_, _<_}
 use mathlib.Core.Path.{_≡_, sym, _∙_, ap, subst}
-use mathlib.Core.Bool.{Bool, true, false, cond}
+use mathlib.Core.Bool.{Bool, true, false, true≢false, cond}
 use mathlib.Core.List.{List}
 use native.Mathlib.Omega.{arith}
 use lib.ListN.{length}
@@ -57,7 +57,7 @@ blind-ready m good room there none b limit =
             last = λ i h. let z : ⊥ = omega arith in absurd z;
             none-blind = λ h. none;
             limit = limit;
-            fits = λ h i l. let z : true ≡ false = sym b ∙ h in let w : _≡_ {A = ℕ} 0 1 = cc in let v : ⊥ = omega arith in absurd v;
+            fits = λ h i l. absurd (true≢false (sym b ∙ h));
           };
     }
 
@@ -73,7 +73,7 @@ open-ready m u b f =
             few = u .room .few;
             rising = λ i h. omega (arith, stamp i (omega arith), stamp (suc i) h, order-next (nothing none-of) order i (subst (λ (n : ℕ). suc i < n) (sym long) h));
             last = λ i h. omega (arith, stamp i (omega arith), order-within (nothing none-of) order i (subst (λ (n : ℕ). i < n) (sym long) (omega arith)));
-            none-blind = λ h. let z : true ≡ false = sym h ∙ b in let w : _≡_ {A = ℕ} 0 1 = cc in let v : ⊥ = omega arith in absurd v;
+            none-blind = λ h. absurd (true≢false (sym h ∙ b));
             limit = f .limit;
             fits = λ h. u .fits;
           };

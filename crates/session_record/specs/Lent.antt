@@ -23,7 +23,7 @@ use Rattle.cuts.specs.Steps.{front-says, says}
 use Rattle.cuts.specs.Fronts.{cut-at, Holds}
 use Rattle.session_record.specs.declared.Session.{Session}
 use Rattle.session_record.specs.declared.Answer.{Answer}
-use Rattle.session_record.specs.declared.Told.{Told}
+use Rattle.session_record.specs.declared.Reply.{Reply}
 use Rattle.session_record.specs.Record.{rows-of, cuts-in, record-of}
 use Rattle.session_record.specs.Step.{answer-of, stepped-of}
 
@@ -72,7 +72,7 @@ pub record Advanced (m : Memory) (c : Call) (a : Answer) (after : Memory) : Type
   pub ready : Ready after
 
 -- A line of a run, taken: the rows hold the front after it, and the answer is read off that front.
-pub record LineTaken (p : Property) (f : Front Lengths) (clock : Clock) (rows : List (List ℕ)) (r : Told) : Type 0 where
+pub record LineTaken (p : Property) (f : Front Lengths) (clock : Clock) (rows : List (List ℕ)) (r : Reply) : Type 0 where
   pub holds : Holds p f rows (r .status .span) 0
   pub answered : r .answer ≡ answer-of (says p (front-says p f) (length (f .held)))
   pub clocked : r .status .clock ≡ clock

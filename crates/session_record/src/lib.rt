@@ -42,7 +42,7 @@ pub struct Stepped {
 }
 
 // What a call on lent rows gives back beside them.
-pub struct Told {
+pub struct Reply {
     pub answer: Answer,
     pub status: Status,
 }

@@ -15,7 +15,7 @@ use Rattle.session_record.specs.Step.{refusal-of}
 use Rattle.session_record.specs.Lent.{tidied}
 use Rattle.session_record.proofs.Steps.{answer-refusal}
 use Rattle.session_record.proofs.Ready.{tidied-refusal, tidied-taken}
-use Rattle.walk.specs.Walk.{Walk, one-call, one-read, stopped, one-more, walked-by, walk-on, walk-answer, budget-of, walk-of}
+use Rattle.walk.specs.Walk.{One, Walk, one-call, one-read, one-of, stopped, walked-by, walk-on, walk-answer, budget-of, walk-of}
 use Rattle.walk.proofs.Going.{walk-taken}
 
 module _ (s : Session) (fits : out-of-range s ≡ false) where
@@ -23,28 +23,33 @@ module _ (s : Session) (fits : out-of-range s ≡ false) where
   abbrev kept : Walk → Walk
   kept w = unless-refused (w .taken) (stopped s (w .stop) (w .read)) w
 
-  same-call : (c : Call) (n : ℕ) → refusal-of s c ≡ n → (f : Session → Walk)
-      → walked-by (one-call s c n) s f ≡ kept (walked-by (one-call (tidied s) c n) (tidied s) f)
-  unfolding one-call walked-by
-  same-call c zero e f = ap (λ (r : Stepped). one-more (f (r .session))) (sym (tidied-taken s fits c e))
-  same-call c (suc n) e f = refl
+  -- A record does the same to both.
+  call-same : (c : Call) (n : ℕ) → refusal-of s c ≡ n → one-call (tidied s) c n ≡ one-call s c n
+  unfolding one-call
+  call-same c zero e = ap (λ (r : Stepped). One.took c (r .session)) (tidied-taken s fits c e)
+  call-same c (suc n) e = refl
+
+  pub one-same : (x : ReadAs) → one-read (tidied s) x ≡ one-read s x
+  unfolding one-read
+  one-same (ReadAs.call c) =
+      ap (one-call (tidied s) c) (answer-refusal (tidied s) c ∙ tidied-refusal s fits c)
+      ∙ call-same c (refusal-of s c) refl
+      ∙ ap (one-call s c) (sym (answer-refusal s c))
+  one-same ReadAs.end = refl
+  one-same (ReadAs.refused n) = refl
+
+  same-by : (o : One) (f : Session → Walk) → walked-by o s f ≡ kept (walked-by o (tidied s) f)
+  unfolding walked-by
+  same-by One.ended f = refl
+  same-by (One.refused n) f = refl
+  same-by (One.took c after) f = refl
 
   same-walk : (budget : ℕ) (bytes : List ℕ) → walk-on budget s bytes ≡ kept (walk-on budget (tidied s) bytes)
   unfolding walk-on
   same-walk zero bytes = refl
-  same-walk (suc budget) bytes = go (read-as (record-answer bytes (latest-of s)))
-    where
-      f : Session → Walk
-      f after = walk-on budget after (drop record-size bytes)
-
-      go : (x : ReadAs) → walked-by (one-read s x) s f ≡ kept (walked-by (one-read (tidied s) x) (tidied s) f)
-      go (ReadAs.call c) =
-          unfold one-read in
-          (ap (λ (n : ℕ). walked-by (one-call s c n) s f) (answer-refusal s c)
-          ∙ same-call c (refusal-of s c) refl f
-          ∙ ap (λ (n : ℕ). kept (walked-by (one-call (tidied s) c n) (tidied s) f)) (sym (answer-refusal (tidied s) c ∙ tidied-refusal s fits c)))
-      go ReadAs.end = unfold one-read walked-by in refl
-      go (ReadAs.refused n) = unfold one-read walked-by in refl
+  same-walk (suc budget) bytes =
+      let f : Session → Walk = λ after. walk-on budget after (drop record-size bytes) in
+      same-by (one-of s bytes) f ∙ ap (λ (o : One). kept (walked-by o (tidied s) f)) (sym (one-same (read-as (record-answer bytes (latest-of s)))))
 
   -- So what a walk on the rows comes to is what the walk on the record answers.
   module _ (bytes : List ℕ) (budget : ℕ) (w : Walk) (e : walk-on (budget-of budget) (tidied s) bytes ≡ w) where

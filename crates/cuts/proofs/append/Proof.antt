@@ -34,10 +34,11 @@ same-length c = search needs
 returns : tie.Need-returns
 returns c =
     let k = moved c in
-    let b = k .before .before .before in
+    let read = k .before in
+    let b = read .before .before in
     let a = b .args in
     rows-appended (a .p) (a .rows .now) (c .before .put-cut .last .0) (a .span) (a .j) (a .action) _ (k .moved .result) (b .pre .0) (b .pre .2) refl
-    (subst (λ (x : Cut). Moved (a .p) x (action-of false (a .action)) (k .moved .result)) (k .before .cut-at .ensures) (k .moved .ensures)) (c .before .put-cut .ensures)
+    (subst (λ (x : Cut). Moved (a .p) x (action-of false (a .action)) (k .moved .result)) (read .cut-at .ensures) (k .moved .ensures)) (c .before .put-cut .ensures)
 
 pub append-spec : {M : Type 1} → statement M
 append-spec =

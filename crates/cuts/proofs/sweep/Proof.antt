@@ -68,12 +68,13 @@ moved-requires c κs =
 
 loop-holds : tie.Need-loop-holds Inv-loop μ-loop
 loop-holds c =
-    let b = c .before .before .before in
+    let first = c .before in
+    let b = first .before .before in
     let a = b .args in (
       omega arith,
       sweeping-none (a .p) (a .rows .now) (a .span) (a .j) (a .action) (a .stamp) (b .pre .0 .room),
       c .moved .ensures .set (a .stamp)
-          ∙ ap (λ (x : Cut). moved (meant (a .p)) (set-of x) (line-of true (a .action) (a .stamp))) (c .before .cut-at .ensures)
+          ∙ ap (λ (x : Cut). moved (meant (a .p)) (set-of x) (line-of true (a .action) (a .stamp))) (first .cut-at .ensures)
           ∙ new-set-none (a .p) (a .rows .now) (a .span) (a .j) (a .action) (a .stamp),
       c .moved .ensures .fits,
     )
@@ -88,7 +89,7 @@ word-requires : tie.Need-word-requires Inv-loop μ-loop
 word-requires c κs = let t = looking (c .before) in (t .loop .inv .1 .room, omega (arith, t .loop .inv .1 .room .shared), omega (arith, few t))
 
 word-requires-2 : tie.Need-word-requires-2 Inv-loop μ-loop
-word-requires-2 c κs = let t = looking (c .before .before .before) in (t .loop .inv .1 .room, t .loop .inv .1 .room .shared, omega (arith, few t))
+word-requires-2 c κs = let w = c .before in let t = looking (w .before .before) in (t .loop .inv .1 .room, t .loop .inv .1 .room .shared, omega (arith, few t))
 
 swept-cut-requires : tie.Need-swept-cut-requires Inv-loop μ-loop
 swept-cut-requires c κs =
@@ -114,15 +115,16 @@ loop-less c = search needs
 
 loop-again : tie.Need-loop-again Inv-loop μ-loop
 loop-again c =
-    let k = c .before .before .before in
+    let put = c .before in
+    let k = put .before .before in
     let t = turn (k .before) in
     let b = entry t in
     let a = b .args in
     let w = t .loop in
     let more : w .i < a .span .count = under (k .before) in (
       omega arith,
-      sweeping-more (a .p) (a .rows .now) (a .span) (a .j) (a .action) (a .stamp) (w .i) (w .rows) (c .before .put-cut .last .0) (w .cut) (b .pre .0 .there)
-          (omega (arith, few t)) (w .inv .1) (w .inv .2) (w .inv .3) (c .before .put-cut .ensures),
+      sweeping-more (a .p) (a .rows .now) (a .span) (a .j) (a .action) (a .stamp) (w .i) (w .rows) (put .put-cut .last .0) (w .cut) (b .pre .0 .there)
+          (omega (arith, few t)) (w .inv .1) (w .inv .2) (w .inv .3) (put .put-cut .ensures),
       new-set-next (a .p) (a .rows .now) (a .span) (a .j) (a .action) (a .stamp) (w .i) (w .rows) (w .cut) (read (k .before) .cut-at2 .result) (k .swept-cut .result)
           (held (k .before) .word .result) (k .before .word2 .result) (w .inv .1) (omega (arith, few t)) (w .inv .2)
           (read (k .before) .cut-at2 .ensures) (held (k .before) .word .ensures) (k .before .word2 .ensures) (k .swept-cut .ensures),

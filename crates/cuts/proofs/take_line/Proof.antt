@@ -61,7 +61,7 @@ dropped-requires : tie.Need-dropped-requires
 dropped-requires c κs = search needs
 
 sweep-requires : tie.Need-sweep-requires
-sweep-requires c κs = let k = c .before .before .before in (left k, entry k .pre .0 .1)
+sweep-requires c κs = let t = c .before in let k = t .before .before in (left k, entry k .pre .0 .1)
 
 same-length : tie.Need-same-length
 same-length c = search needs

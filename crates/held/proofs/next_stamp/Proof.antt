@@ -18,7 +18,8 @@ word-requires c κs = search needs
 
 returns : tie.Need-returns
 returns c =
-    let b = c .before .before .before in
+    let t = c .before in
+    let b = t .before .before in
     c .word .ensures ∙ ap (word (b .args .rows .now) (b .args .span) 0) (add-one (b .args .i))
     ∙ ap (λ (t : Bool). cond t (word (b .args .rows .now) (b .args .span) 0 (suc (b .args .i))) (b .args .latest)) (sym (lt-ltb (suc (b .args .i)) (b .args .span .count) (omega arith)))
 

@@ -45,6 +45,9 @@ first k = k .before .before
 abbrev ticking : tie.After-begin → tie.After-ticked2
 ticking k = k .before .before
 
+abbrev began : tie.After-rows2 → tie.After-begin
+began c = c .before .before .before .before
+
 abbrev far : tie.After-begin → tie.Else3
 far k = ticking k .before
 
@@ -76,8 +79,9 @@ unmoved-requires c κs = search needs
 returns : tie.Need-returns
 returns c =
     let t = c .before in
-    let number = t .before .refused in
-    let b = t .before .before .before in
+    let k = t .before in
+    let number = k .refused in
+    let b = k .before .before in
     let a = b .args in
     refused-leads (entry b) (b .pre .0) (call b) (number .result)
     (line-refused (a .p) (held-in (entry b)) (a .output) (a .action) (a .stamp) (number .result) (number .ensures) (t .if1 .taken)) (t .if1 .taken) (c .unmoved .result) (c .unmoved .ensures)
@@ -107,7 +111,8 @@ ticked-requires-2 c κs = search needs
 
 begin-requires : tie.Need-begin-requires
 begin-requires c κs =
-    let b = start (first (c .before .before .before)) in
+    let t = c .before in
+    let b = start (first (t .before .before)) in
     (room-none (b .args .rows .now) (b .args .status .span) (b .pre .0 .room), b .pre .0 .there)
 
 run-on-requires : tie.Need-run-on-requires
@@ -128,7 +133,7 @@ same-length c = search needs
 
 returns-3 : tie.Need-returns-3
 returns-3 c =
-    let k = c .before .before .before .before in
+    let k = began c in
     let f = far k in
     let e = first (f .before) in
     let b = start e in
@@ -183,7 +188,8 @@ same-length-3 c = search needs
 
 returns-5 : tie.Need-returns-5
 returns-5 c =
-    let t = c .before .before .before in
+    let run = c .before in
+    let t = run .before .before in
     let f = t .before in
     let k = f .before .before in
     let r = running k in
@@ -191,8 +197,8 @@ returns-5 c =
     let b = start e in
     let a = b .args in
     next-leads (entry b) (b .pre .0) (a .output) (a .action) (a .stamp) (asked e .refused .result) (asked e .refused .ensures) (e .if1 .left) (r .if2 .left) (k .closed-count .result) (k .closed-count .ensures)
-    (fits f) (t .ticked3 .result) (t .ticked3 .ensures (line-of (a .output) (a .action) (a .stamp)) refl) (c .before .run-on2 .last .1 .1 .0) (c .before .run-on2 .result)
-    (c .before .run-on2 .ensures)
+    (fits f) (t .ticked3 .result) (t .ticked3 .ensures (line-of (a .output) (a .action) (a .stamp)) refl) (run .run-on2 .last .1 .1 .0) (run .run-on2 .result)
+    (run .run-on2 .ensures)
 
 pub line-spec : {M : Type 1} → statement M
 line-spec =

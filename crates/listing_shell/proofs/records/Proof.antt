@@ -21,6 +21,9 @@ abbrev μ-loop : tie.MeasureT-loop
 abbrev entry : tie.After-rows-of Inv-loop μ-loop → tie.Start Inv-loop μ-loop
 entry k = k .before .before .before .before
 
+abbrev made : tie.At-loop Inv-loop μ-loop → tie.After-rows-of Inv-loop μ-loop
+made t = t .before .before
+
 abbrev turn : tie.After-rows Inv-loop μ-loop → tie.At-loop Inv-loop μ-loop
 turn c = c .before .before .before
 
@@ -43,7 +46,7 @@ slice-aggregate-next : tie.Need-slice-aggregate-next Inv-loop μ-loop
 slice-aggregate-next c = search needs
 
 next-requires : tie.Need-next-requires Inv-loop μ-loop
-next-requires c κs = let t = turn c in (t .loop .inv .0, t .before .before .before .table .ensures)
+next-requires c κs = let t = turn c in (t .loop .inv .0, made t .before .table .ensures)
 
 shown-requires : tie.Need-shown-requires Inv-loop μ-loop
 shown-requires c κs = lists-fits (c .before .next .ensures)

@@ -5,7 +5,7 @@ use Rattle.record_form.specs.declared.RecordRead.{RecordRead}
 use Rattle.trace_form.specs.ReadAs.{ReadAs, case-as}
 use Rattle.held.specs.declared.Status.{Status}
 use Rattle.session_record.specs.declared.Answer.{Answer}
-use Rattle.session_record.specs.declared.Told.{Told}
+use Rattle.session_record.specs.declared.Reply.{Reply}
 use Rattle.session_record.specs.Lent.{Memory, memory, Advanced}
 use Rattle.one_record.specs.Takes.{Takes}
 use borrow.Author.Needs.{needs}
@@ -27,9 +27,9 @@ call-takes : {m after : Memory} {c : Call} {a : Answer} → Advanced m c a after
 call-takes h = record { taken = h .stepped; ready = h .ready }
 
 -- what is told of rows that are as they were
-stays : (b : tie.Start) {r t : Told} → r ≡ t → Takes (entry b) (case-as (b .args .read)) (t .answer) (as-lent b (t .status))
+stays : (b : tie.Start) {r t : Reply} → r ≡ t → Takes (entry b) (case-as (b .args .read)) (t .answer) (as-lent b (t .status))
     → Takes (entry b) (case-as (b .args .read)) (r .answer) (as-lent b (r .status))
-stays b e h = subst (λ (x : Told). Takes (entry b) (case-as (b .args .read)) (x .answer) (as-lent b (x .status))) (sym e) h
+stays b e h = subst (λ (x : Reply). Takes (entry b) (case-as (b .args .read)) (x .answer) (as-lent b (x .status))) (sym e) h
 
 enum-known-read : tie.Need-enum-known-read
 enum-known-read c = search needs

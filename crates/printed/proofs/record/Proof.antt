@@ -19,19 +19,22 @@ use borrow.Author.Needs.{needs}
 use Rattle.printed.proofs.record.Statement.{statement}
 use Rattle.printed.proofs.record.Tie as tie
 
--- refusal 10 does not name the record
-fit : (e : tie.Else1) → out-of-range (e .before .before .before .args .s) ≡ false
-fit e = sym (e .before .unfit .ensures) ∙ e .if1 .left
+-- what was given, from where refusal 10 was asked
+abbrev asked : tie.After-unfit → tie.Start
+asked k = k .before .before
 
--- what was given, from where refusal 10 was passed
 abbrev given : tie.Else1 → Session
-given e = e .before .before .before .args .s
+given e = asked (e .before) .args .s
 
 abbrev count : tie.Else1 → ℕ
-count e = e .before .before .before .args .count
+count e = asked (e .before) .args .count
 
 abbrev bytes : tie.Else1 → List ℕ
-bytes e = e .before .before .before .args .bytes .now
+bytes e = asked (e .before) .args .bytes .now
+
+-- refusal 10 does not name the record
+fit : (e : tie.Else1) → out-of-range (given e) ≡ false
+fit e = sym (e .before .unfit .ensures) ∙ e .if1 .left
 
 -- from the rows back to there, and to them from the record on them
 abbrev sharing : tie.After-clock → tie.Else1
@@ -71,7 +74,7 @@ stop-requires c κs = search needs
 returns : tie.Need-returns
 returns c =
     let t = c .before in
-    let a = t .before .before .before .args in
+    let a = asked (t .before) .args in
     ap (λ (x : Text). record { text = x; session = a .s; count = a .count; more = false }) (c .stop .ensures)
     ∙ sym (named record-answer (a .s) (a .count) (a .bytes .now) (sym (t .before .unfit .ensures) ∙ t .if1 .taken))
 
@@ -89,7 +92,8 @@ slice-aggregate-record c = search needs
 
 record-requires : tie.Need-record-requires
 record-requires c κs =
-    let k = c .before .before .before in
+    let lending = c .before in
+    let k = lending .before .before in
     let e = passed k in
     (lent-ready (given e) (fit e) (k .rows-of .result) (k .rows-of .ensures .0) (k .rows-of .ensures .2), k .before .table .ensures)
 

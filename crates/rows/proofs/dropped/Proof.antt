@@ -62,8 +62,9 @@ same-length c = search needs
 
 returns-2 : tie.Need-returns-2 Inv-loop μ-loop
 returns-2 c =
-    let w = c .before .loop in
-    let b = c .before .before .before in
+    let t = c .before in
+    let w = t .loop in
+    let b = t .before .before in
     let a = b .args in
     let end : w .k ≡ length (a .rows .now) = omega (arith, w .inv .1 .tall, c .loop-test) in
     all-moved (a .span) (a .d) (a .rows .now) (w .rows) _ (b .pre .0) (b .pre .1) refl

@@ -37,7 +37,8 @@ stored-requires-2 c κs = search needs
 returns-2 : tie.Need-returns-2
 returns-2 c =
     let e = c .before .before in
-    let b = e .before .before .before in
+    let k = e .before in
+    let b = k .before .before in
     c .stored2 .ensures ∙ packed-open (memory (b .args .p) (b .args .rows .now) (b .args .status)) (b .pre) (e .if1 .left) _ refl
 
 pub made-spec : {M : Type 1} → statement M

@@ -37,8 +37,9 @@ loop-less c = search needs
 
 loop-again : tie.Need-loop-again Inv-loop μ-loop
 loop-again c =
-    let w = c .before .before .loop in
-    let a = c .before .before .before .args in
+    let t = c .before .before in
+    let w = t .loop in
+    let a = t .before .args in
     (omega arith, filled-more 0 0 (word (a .rows .now) (a .span) (a .k)) (replicate 65 0) (w .i) (w .r) (c .word .result) (omega arith) (omega arith) (w .inv .1) (c .word .ensures))
 
 returns : tie.Need-returns Inv-loop μ-loop

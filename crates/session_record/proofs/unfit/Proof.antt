@@ -68,10 +68,11 @@ refused-requires c κs = search needs
 
 returns : tie.Need-returns
 returns c =
-    let s = c .before .before .before .args .s in
+    let k = c .before in
+    let s = k .before .before .args .s in
     sym
     (range-tests s true (crowded s) (fallen s) (held-blind s) (late s) (too-long s)
-    (ap not (ne-eqb (property-refusal (meant (s .property))) 0 (λ e. c .if1 .taken (c .before .refused .ensures ∙ e)))) refl refl refl refl refl)
+    (ap not (ne-eqb (property-refusal (meant (s .property))) 0 (λ e. c .if1 .taken (k .refused .ensures ∙ e)))) refl refl refl refl refl)
 
 returns-2 : tie.Need-returns-2
 returns-2 c =

@@ -69,7 +69,8 @@ rows-of-requires c κs = search needs
 loop-holds : tie.Need-loop-holds Inv-loop μ-loop
 loop-holds c =
     let k = c .before in
-    let f = k .before .before .before in
+    let sharing = k .before in
+    let f = sharing .before .before in
     let b = f .before .before in
     let r = f .fresh in
     let rows = k .rows-of in (
@@ -119,10 +120,10 @@ slice-aggregate-tell-2 : tie.Need-slice-aggregate-tell-2 Inv-loop μ-loop
 slice-aggregate-tell-2 c = let e = c .before .before in sym (gone (ended e) .stands .keeps .actions-long)
 
 slice-aggregate-tell-3 : tie.Need-slice-aggregate-tell-3 Inv-loop μ-loop
-slice-aggregate-tell-3 c = let e = c .before .before .before in sym (gone (ended e) .stands .keeps .stamps-long)
+slice-aggregate-tell-3 c = let a = c .before in let e = a .before .before in sym (gone (ended e) .stands .keeps .stamps-long)
 
 tell-requires : tie.Need-tell-requires Inv-loop μ-loop
-tell-requires c κs = let e = c .before .before .before in going-open _ _ _ (gone (ended e)) (e .if1 .left)
+tell-requires c κs = let a = c .before in let e = a .before .before in going-open _ _ _ (gone (ended e)) (e .if1 .left)
 
 returns-2 : tie.Need-returns-2 Inv-loop μ-loop
 returns-2 c = tt

@@ -20,6 +20,9 @@ began k = k .before .before .before
 abbrev rows : tie.After-records → tie.After-rows-of
 rows k = k .before .before .before
 
+abbrev walked : tie.After-rows2 → tie.After-records
+walked c = c .before
+
 abbrev entry : tie.After-records → tie.Start
 entry k = began (made (rows k))
 
@@ -71,7 +74,7 @@ returns : tie.Need-returns
 returns c =
     let t = c .before in
     let m = t .before .before in
-    let k = m .before .before .before in
+    let k = walked (m .before .before) in
     c .refusal2 .ensures
     ∙ sym (judged-behind (entry k .args .p) (entry k .args .trace .now) (record-in (lent k)) (means k) _ (k .records .ensures .walked) (m .enum-told2 .given .1) (t .if1 .taken))
 
@@ -79,7 +82,7 @@ slice-aggregate-verdict-of : tie.Need-slice-aggregate-verdict-of
 slice-aggregate-verdict-of c = search needs
 
 verdict-of-requires : tie.Need-verdict-of-requires
-verdict-of-requires c κs = let m = c .before .before .before in m .before .before .before .records .ensures .ready
+verdict-of-requires c κs = let e = c .before in let told = e .before .before in walked (told .before .before) .records .ensures .ready
 
 enum-known-stop : tie.Need-enum-known-stop
 enum-known-stop c = search needs
@@ -90,7 +93,7 @@ refusal-requires-3 c κs = search needs
 returns-2 : tie.Need-returns-2
 returns-2 c =
     let m = c .before in
-    let k = m .before .before .before in
+    let k = walked (m .before .before) in
     c .refusal .ensures
     ∙ sym (judged-budget (entry k .args .p) (entry k .args .trace .now) (record-in (lent k)) (means k) _ (k .records .ensures .walked) (m .enum-told .given .1))
 
@@ -98,14 +101,14 @@ returns-3 : tie.Need-returns-3
 returns-3 c =
     let e = c .before .before in
     let m = e .before .before in
-    let k = m .before .before .before in
+    let k = walked (m .before .before) in
     ap (λ (v : ℕ). record { refusal = 0; verdict = v; count = k .records .result .taken }) (c .verdict-of .ensures)
     ∙ sym (judged-ended (entry k .args .p) (entry k .args .trace .now) (record-in (lent k)) (means k) _ (k .records .ensures .walked) (m .enum-told2 .given .1) (e .if1 .left))
 
 returns-4 : tie.Need-returns-4
 returns-4 c =
     let m = c .before .before in
-    let k = m .before .before .before in
+    let k = walked (m .before .before) in
     c .refusal3 .ensures
     ∙ sym (judged-refused (entry k .args .p) (entry k .args .trace .now) (record-in (lent k)) (means k) _ (k .records .ensures .walked) _ (m .stop .given .1))
 

@@ -8,7 +8,7 @@ use Rattle.session_record.specs.declared.Session.{Session}
 use Rattle.session_record.specs.Record.{span-of, out-of-range}
 use Rattle.session_record.specs.Lent.{memory, record-in, tidied, Ready}
 use Rattle.session_record.proofs.Range.{ranged}
-use Rattle.session_record.proofs.Ready.{fits-ready}
+use Rattle.session_record.proofs.Ready.{lent-ready}
 use Rattle.walk.specs.Walk.{Walk, walk-on, last-lost, in-numbers, budget-of}
 use Rattle.walk.proofs.Going.{walk-refused}
 use Rattle.walk.proofs.Tidied.{none-taken, some-taken}
@@ -52,10 +52,7 @@ module _ (k : tie.After-limited) where
 
   ready : Ready (memory (s .property) rows (s .shared .status))
   ready =
-      let r = lent k .rows-of .ensures in
-      let few = ranged s (fit (passed k)) .few in
-      subst (λ (l : List (List ℕ)). Ready (memory (s .property) l (s .shared .status))) (sym (r .0))
-      (fits-ready s (fit (passed k)) (subst (λ (l : List (List ℕ)). Room l (span-of s)) (r .0) (r .2 (span-of s) few)))
+      let r = lent k .rows-of in lent-ready s (fit (passed k)) (r .result) (r .ensures .0) (r .ensures .2)
 
 -- what it comes to
 abbrev gone : tie.After-records → Walk
