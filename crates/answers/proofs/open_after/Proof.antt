@@ -4,20 +4,11 @@ use borrow.Author.Needs.{needs}
 use Rattle.answers.proofs.open_after.Statement.{statement}
 use Rattle.answers.proofs.open_after.Tie as tie
 
-sub-result : tie.Need-sub-result
-sub-result c = search needs
-
 returns : tie.Need-returns
 returns c = simp (c .if1 .taken, add-zero)
-
-sub-result-2 : tie.Need-sub-result-2
-sub-result-2 c = search needs
-
-add-result : tie.Need-add-result
-add-result c = search needs
 
 returns-2 : tie.Need-returns-2
 returns-2 c = simp (c .if1 .left)
 
 pub open-after-spec : {M : Type 1} → statement M
-open-after-spec = tie.close (tie.spec sub-result returns sub-result-2 add-result returns-2)
+open-after-spec = tie.close (tie.spec (λ c. search needs) returns (λ c. search needs) (λ c. search needs) returns-2)

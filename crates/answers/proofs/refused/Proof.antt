@@ -7,11 +7,8 @@ use Rattle.answers.proofs.refused.Tie as tie
 returns : tie.Need-returns
 returns c = simp (lt-ltb _ _ (c .if1 .taken))
 
-refused-requires : tie.Need-refused-requires
-refused-requires c κs = search needs
-
 returns-2 : tie.Need-returns-2
 returns-2 c = simp (le-ltb _ _ (c .before .if1 .left), c .refused .ensures)
 
 pub refused-spec : {M : Type 1} → statement M
-refused-spec = tie.close (tie.spec returns refused-requires returns-2)
+refused-spec = tie.close (tie.spec returns (λ c κs. search needs) returns-2)

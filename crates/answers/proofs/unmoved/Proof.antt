@@ -6,11 +6,8 @@ use borrow.Author.Needs.{needs}
 use Rattle.answers.proofs.unmoved.Statement.{statement}
 use Rattle.answers.proofs.unmoved.Tie as tie
 
-refused-requires : tie.Need-refused-requires
-refused-requires c κs = search needs
-
 returns : tie.Need-returns
 returns c = ap {B = Reply} (λ (x : Answer). record { answer = x; status = c .before .args .status }) (c .refused .ensures)
 
 pub unmoved-spec : {M : Type 1} → statement M
-unmoved-spec = tie.close (tie.spec refused-requires returns)
+unmoved-spec = tie.close (tie.spec (λ c κs. search needs) returns)

@@ -11,8 +11,5 @@ mul-result c = omega (arith, taken-bounds (c .before .args .p) (c .before .pre .
 add-result : tie.Need-add-result
 add-result c = omega (arith, taken-bounds (c .before .before .args .p) (c .before .before .pre .0), c .before .before .pre .1)
 
-returns : tie.Need-returns
-returns c = search needs
-
 pub beyond-spec : {M : Type 1} → statement M
-beyond-spec = tie.close (tie.spec mul-result add-result returns)
+beyond-spec = tie.close (tie.spec mul-result add-result (λ c. search needs))

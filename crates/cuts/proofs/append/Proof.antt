@@ -14,22 +14,10 @@ use Rattle.cuts.proofs.append.Tie as tie
 abbrev moved : tie.After-rows → tie.After-moved
 moved c = c .before .before .before
 
-cut-at-requires : tie.Need-cut-at-requires
-cut-at-requires c κs = search needs
-
 moved-requires : tie.Need-moved-requires
 moved-requires c κs =
     let b = c .before .before in
     (b .pre .0 .formed, b .pre .1, subst (Fits (b .args .p)) (sym (c .cut-at .ensures)) (b .pre .0 .fits (b .args .span .count) (omega arith)))
-
-add-put-cut : tie.Need-add-put-cut
-add-put-cut c = search needs
-
-put-cut-requires : tie.Need-put-cut-requires
-put-cut-requires c κs = search needs
-
-same-length : tie.Need-same-length
-same-length c = search needs
 
 returns : tie.Need-returns
 returns c =
@@ -43,4 +31,4 @@ returns c =
 pub append-spec : {M : Type 1} → statement M
 append-spec =
     tie.close
-    (tie.spec cut-at-requires moved-requires add-put-cut put-cut-requires same-length returns)
+    (tie.spec (λ c κs. search needs) moved-requires (λ c. search needs) (λ c κs. search needs) (λ c. search needs) returns)

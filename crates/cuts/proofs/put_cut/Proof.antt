@@ -14,21 +14,6 @@ use Rattle.cuts.proofs.put_cut.Tie as tie
 abbrev start : tie.After-put-arg2 → tie.Start
 start k = k .before .before .before .before
 
-mul-put : tie.Need-mul-put
-mul-put c = search needs
-
-add-put : tie.Need-add-put
-add-put c = search needs
-
-put-requires : tie.Need-put-requires
-put-requires c κs = search needs
-
-mul-put-2 : tie.Need-mul-put-2
-mul-put-2 c = search needs
-
-add-put-2 : tie.Need-add-put-2
-add-put-2 c = search needs
-
 put-requires-2 : tie.Need-put-requires-2
 put-requires-2 c κs =
     let b = start c in
@@ -41,9 +26,6 @@ put-requires-2 c κs =
       b .pre .2,
     )
 
-same-length : tie.Need-same-length
-same-length c = search needs
-
 returns : tie.Need-returns
 returns c =
     let k = c .before .before in
@@ -53,4 +35,12 @@ returns c =
 pub put-cut-spec : {M : Type 1} → statement M
 put-cut-spec =
     tie.close
-    (tie.spec mul-put add-put put-requires mul-put-2 add-put-2 put-requires-2 same-length returns)
+    (tie.spec
+    (λ c. search needs)
+    (λ c. search needs)
+    (λ c κs. search needs)
+    (λ c. search needs)
+    (λ c. search needs)
+    put-requires-2
+    (λ c. search needs)
+    returns)

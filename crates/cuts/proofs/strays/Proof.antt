@@ -32,12 +32,6 @@ looked k = ap (stray (entry k .args .n)) (sym (k .before .cut-at .ensures)) ∙ 
 loop-holds : tie.Need-loop-holds Inv-loop μ-loop
 loop-holds c = (search needs, λ k h. absurd (not-suc-le-zero h))
 
-cut-at-requires : tie.Need-cut-at-requires Inv-loop μ-loop
-cut-at-requires c κs = search needs
-
-stray-requires : tie.Need-stray-requires Inv-loop μ-loop
-stray-requires c κs = search needs
-
 returns : tie.Need-returns Inv-loop μ-loop
 returns c =
     let k = c .before in
@@ -45,12 +39,6 @@ returns c =
     sym
     (some-to-here (a .span .count) (λ i. stray (a .n) (cut-at (a .rows .now) (a .span) (a .j) i)) (turn k .loop .i) (omega arith)
     (looked k ∙ c .if1 .taken))
-
-add-i : tie.Need-add-i Inv-loop μ-loop
-add-i c = search needs
-
-loop-less : tie.Need-loop-less Inv-loop μ-loop
-loop-less c = search needs
 
 loop-again : tie.Need-loop-again Inv-loop μ-loop
 loop-again c =
@@ -71,10 +59,10 @@ strays-spec =
     Inv-loop
     μ-loop
     loop-holds
-    cut-at-requires
-    stray-requires
+    (λ c κs. search needs)
+    (λ c κs. search needs)
     returns
-    add-i
-    loop-less
+    (λ c. search needs)
+    (λ c. search needs)
     loop-again
     returns-2)

@@ -79,9 +79,6 @@ loop-holds c =
       c .moved .ensures .fits,
     )
 
-add-cut-at : tie.Need-add-cut-at Inv-loop μ-loop
-add-cut-at c = search needs
-
 cut-at-requires-2 : tie.Need-cut-at-requires-2 Inv-loop μ-loop
 cut-at-requires-2 c κs = let t = c .before .before in (t .loop .inv .1 .room, there t, omega (arith, few t))
 
@@ -107,12 +104,6 @@ swept-cut-requires c κs =
 put-cut-requires : tie.Need-put-cut-requires Inv-loop μ-loop
 put-cut-requires c κs = let t = turn (c .before .before) in (t .loop .inv .1 .room, there t, omega (arith, few t))
 
-add-i : tie.Need-add-i Inv-loop μ-loop
-add-i c = search needs
-
-loop-less : tie.Need-loop-less Inv-loop μ-loop
-loop-less c = search needs
-
 loop-again : tie.Need-loop-again Inv-loop μ-loop
 loop-again c =
     let put = c .before in
@@ -133,9 +124,6 @@ loop-again c =
 
 put-cut-requires-2 : tie.Need-put-cut-requires-2 Inv-loop μ-loop
 put-cut-requires-2 c κs = let t = c .before .before in (t .loop .inv .1 .room, there t, few t)
-
-same-length : tie.Need-same-length Inv-loop μ-loop
-same-length c = search needs
 
 returns : tie.Need-returns Inv-loop μ-loop
 returns c =
@@ -159,15 +147,15 @@ sweep-spec =
     cut-at-requires
     moved-requires
     loop-holds
-    add-cut-at
+    (λ c. search needs)
     cut-at-requires-2
     word-requires
     word-requires-2
     swept-cut-requires
     put-cut-requires
-    add-i
-    loop-less
+    (λ c. search needs)
+    (λ c. search needs)
     loop-again
     put-cut-requires-2
-    same-length
+    (λ c. search needs)
     returns)

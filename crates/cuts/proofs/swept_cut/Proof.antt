@@ -20,9 +20,6 @@ start k = k .before
 abbrev behind : tie.After-joined → tie.After-moved
 behind c = c .before .before .before .before
 
-moved-requires : tie.Need-moved-requires
-moved-requires c κs = search needs
-
 mul-if1 : tie.Need-mul-if1
 mul-if1 c =
     let bounds = taken-bounds (c .before .before .args .p) (c .before .before .pre .0) in
@@ -32,12 +29,6 @@ add-if1 : tie.Need-add-if1
 add-if1 c =
     let bounds = taken-bounds (c .before .before .args .p) (c .before .before .pre .0) in
     record { fits = omega (arith, bounds .order, bounds .high, c .before .before .pre .2) }
-
-moved-requires-2 : tie.Need-moved-requires-2
-moved-requires-2 c κs = search needs
-
-joined-requires : tie.Need-joined-requires
-joined-requires c κs = search needs
 
 returns : tie.Need-returns
 returns c =
@@ -71,4 +62,4 @@ returns-2 c =
 pub swept-cut-spec : {M : Type 1} → statement M
 swept-cut-spec =
     tie.close
-    (tie.spec moved-requires mul-if1 add-if1 moved-requires-2 joined-requires returns returns-2)
+    (tie.spec (λ c κs. search needs) mul-if1 add-if1 (λ c κs. search needs) (λ c κs. search needs) returns returns-2)

@@ -57,14 +57,8 @@ left-front k =
 room : (e : tie.Else1) → dropped e .dropped .result .count < 64
 room e = let k = dropped e in subst (λ (n : ℕ). n < 64) (sym (k .dropped .ensures .counted)) (entry k .pre .1 .2 (e .if1 .left))
 
-dropped-requires : tie.Need-dropped-requires
-dropped-requires c κs = search needs
-
 sweep-requires : tie.Need-sweep-requires
 sweep-requires c κs = let t = c .before in let k = t .before .before in (left k, entry k .pre .0 .1)
-
-same-length : tie.Need-same-length
-same-length c = search needs
 
 returns : tie.Need-returns
 returns c =
@@ -83,9 +77,6 @@ append-requires-2 c κs = c .before .before .append .ensures .room
 longer-requires : tie.Need-longer-requires
 longer-requires c κs = room (else c)
 
-same-length-2 : tie.Need-same-length-2
-same-length-2 c = search needs
-
 returns-2 : tie.Need-returns-2
 returns-2 c =
     let e = else (c .before) in
@@ -103,12 +94,12 @@ pub take-line-spec : {M : Type 1} → statement M
 take-line-spec =
     tie.close
     (tie.spec
-    dropped-requires
+    (λ c κs. search needs)
     sweep-requires
-    same-length
+    (λ c. search needs)
     returns
     append-requires
     append-requires-2
     longer-requires
-    same-length-2
+    (λ c. search needs)
     returns-2)

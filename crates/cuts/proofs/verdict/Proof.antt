@@ -13,12 +13,6 @@ use borrow.Author.Needs.{needs}
 use Rattle.cuts.proofs.verdict.Statement.{statement}
 use Rattle.cuts.proofs.verdict.Tie as tie
 
-cut-at-requires : tie.Need-cut-at-requires
-cut-at-requires c κs = search needs
-
-verdict-requires : tie.Need-verdict-requires
-verdict-requires c κs = search needs
-
 returns : tie.Need-returns
 returns c =
     let a = c .before .before .args in
@@ -30,4 +24,4 @@ returns c =
     (sym (last-set-first (meant p) (lengths (meant p)) (line-at (a .rows .now) (a .span)) (set-at (a .rows .now) (a .span) (a .j)) (a .span .count)))
 
 pub verdict-spec : {M : Type 1} → statement M
-verdict-spec = tie.close (tie.spec cut-at-requires verdict-requires returns)
+verdict-spec = tie.close (tie.spec (λ c κs. search needs) (λ c κs. search needs) returns)

@@ -24,27 +24,12 @@ mul-v c =
     let a = c .before .before .args in
     omega (arith, number-fits (at (a .list .now)) (c .before .before .pre .1) (8 * a .j) (c .before .loop .k) 8 (omega arith))
 
-mul-v-2 : tie.Need-mul-v-2 Inv-loop μ-loop
-mul-v-2 c = search needs
-
-add-v : tie.Need-add-v Inv-loop μ-loop
-add-v c = search needs
-
-shared-slice-read-v : tie.Need-shared-slice-read-v Inv-loop μ-loop
-shared-slice-read-v c = search needs
-
 add-v-2 : tie.Need-add-v-2 Inv-loop μ-loop
 add-v-2 c =
     let a = c .before .before .before .args in
     let b = c .before .before .before .pre .1 in
     let k = c .before .before .loop .k in
     omega (arith, number-fits (at (a .list .now)) b (8 * a .j) k 8 (omega arith), b (8 * a .j + k))
-
-add-k : tie.Need-add-k Inv-loop μ-loop
-add-k c = search needs
-
-loop-less : tie.Need-loop-less Inv-loop μ-loop
-loop-less c = search needs
 
 loop-again : tie.Need-loop-again Inv-loop μ-loop
 loop-again c =
@@ -66,11 +51,11 @@ byte-of-spec =
     μ-loop
     loop-holds
     mul-v
-    mul-v-2
-    add-v
-    shared-slice-read-v
+    (λ c. search needs)
+    (λ c. search needs)
+    (λ c. search needs)
     add-v-2
-    add-k
-    loop-less
+    (λ c. search needs)
+    (λ c. search needs)
     loop-again
     returns)

@@ -5,15 +5,9 @@ use borrow.Author.Needs.{needs}
 use Rattle.fields.proofs.digit_of.Statement.{statement}
 use Rattle.fields.proofs.digit_of.Tie as tie
 
-shr-result : tie.Need-shr-result
-shr-result c = search needs
-
-cast-result : tie.Need-cast-result
-cast-result c = search needs
-
 returns : tie.Need-returns
 unfolding digit
 returns c = refl
 
 pub digit-of-spec : {M : Type 1} → statement M
-digit-of-spec = tie.close (tie.spec shr-result cast-result returns)
+digit-of-spec = tie.close (tie.spec (λ c. search needs) (λ c. search needs) returns)

@@ -24,24 +24,12 @@ mul-v c =
     let a = c .before .before .before .args in
     omega (arith, number-fits (bit (a .s .now)) (bit-lt (a .s .now)) (a .start) (c .before .loop .k) 64 (omega arith))
 
-add-bit-at : tie.Need-add-bit-at Inv-loop μ-loop
-add-bit-at c = search needs
-
-bit-at-requires : tie.Need-bit-at-requires Inv-loop μ-loop
-bit-at-requires c κs = search needs
-
 add-v : tie.Need-add-v Inv-loop μ-loop
 add-v c =
     let a = c .before .before .before .before .args in
     let k = c .before .before .loop .k in
     omega
     (arith, number-fits (bit (a .s .now)) (bit-lt (a .s .now)) (a .start) k 64 (omega arith), bit-lt (a .s .now) (a .start + k))
-
-add-k : tie.Need-add-k Inv-loop μ-loop
-add-k c = search needs
-
-loop-less : tie.Need-loop-less Inv-loop μ-loop
-loop-less c = search needs
 
 loop-again : tie.Need-loop-again Inv-loop μ-loop
 loop-again c =
@@ -63,10 +51,10 @@ field-at-spec =
     μ-loop
     loop-holds
     mul-v
-    add-bit-at
-    bit-at-requires
+    (λ c. search needs)
+    (λ c κs. search needs)
     add-v
-    add-k
-    loop-less
+    (λ c. search needs)
+    (λ c. search needs)
     loop-again
     returns)

@@ -24,27 +24,6 @@ loop-holds c =
     let a = c .before .args in
     (search needs, paste-zero (a .list .now) (a .start) (bits (a .width) (a .v)), refl)
 
-sub-digit-of : tie.Need-sub-digit-of Inv-loop μ-loop
-sub-digit-of c = search needs
-
-sub-digit-of-2 : tie.Need-sub-digit-of-2 Inv-loop μ-loop
-sub-digit-of-2 c = search needs
-
-digit-of-requires : tie.Need-digit-of-requires Inv-loop μ-loop
-digit-of-requires c κs = search needs
-
-add-list : tie.Need-add-list Inv-loop μ-loop
-add-list c = search needs
-
-slice-write-list : tie.Need-slice-write-list Inv-loop μ-loop
-slice-write-list c = search needs
-
-add-j : tie.Need-add-j Inv-loop μ-loop
-add-j c = search needs
-
-loop-less : tie.Need-loop-less Inv-loop μ-loop
-loop-less c = search needs
-
 loop-again : tie.Need-loop-again Inv-loop μ-loop
 loop-again c =
     let a = c .before .before .before .before .args in
@@ -74,13 +53,13 @@ put-field-spec =
     Inv-loop
     μ-loop
     loop-holds
-    sub-digit-of
-    sub-digit-of-2
-    digit-of-requires
-    add-list
-    slice-write-list
-    add-j
-    loop-less
+    (λ c. search needs)
+    (λ c. search needs)
+    (λ c κs. search needs)
+    (λ c. search needs)
+    (λ c. search needs)
+    (λ c. search needs)
+    (λ c. search needs)
     loop-again
     same-length
     returns)

@@ -56,12 +56,6 @@ returns-2 c =
     no-input (b .args .p) (run b) (b .args .breaking) (b .args .from) (n .before .next .result) (n .next2 .result) (n .before .next .ensures .0) (n .next2 .ensures .0) (b .pre .2 .sized .output-long)
     (lt-leb _ _ (c .before .if1 .left)) (le-leb _ _ (c .if2 .taken))
 
-mul-if3 : tie.Need-mul-if3
-mul-if3 c = search needs
-
-shared-slice-read-if3 : tie.Need-shared-slice-read-if3
-shared-slice-read-if3 c = search needs
-
 mul-if3-2 : tie.Need-mul-if3-2
 mul-if3-2 c = let b = start (c .before .before .before .before) in omega (arith, taken-bounds (b .args .p) (b .pre .0))
 
@@ -70,30 +64,12 @@ add-if3 c =
     let n = c .before .before .before .before in
     let b = start n in omega (arith, taken-bounds (b .args .p) (b .pre .0), b .pre .2 .sized .stamps-low (n .before .next .result))
 
-mul-if3-3 : tie.Need-mul-if3-3
-mul-if3-3 c = search needs
-
-shared-slice-read-if3-2 : tie.Need-shared-slice-read-if3-2
-shared-slice-read-if3-2 c = search needs
-
 returns-3 : tie.Need-returns-3
 returns-3 c =
     let n = c .before .before .before .before .before .before in
     let b = start n in
     too-far (b .args .p) (run b) (b .args .breaking) (b .args .from) (n .before .next .result) (n .next2 .result) (n .before .next .ensures .0) (n .next2 .ensures .0) (b .pre .2 .sized .output-long)
     (lt-leb _ _ (c .before .before .before .before .before .if1 .left)) (lt-leb _ _ (c .before .before .before .before .if2 .left)) (lt-ltb _ _ (c .if3 .taken))
-
-shared-slice-read-with-line : tie.Need-shared-slice-read-with-line
-shared-slice-read-with-line c = search needs
-
-with-line-requires : tie.Need-with-line-requires
-with-line-requires c κs = search needs
-
-judge-requires : tie.Need-judge-requires
-judge-requires c κs = search needs
-
-reaches-requires : tie.Need-reaches-requires
-reaches-requires c κs = search needs
 
 -- what the answer of `reaches` says of the verdict on what follows
 asked : (d : tie.After-reaches) → d .reaches .result ≡ reaches (start (next2-of d) .args .breaking) (end-of d)
@@ -129,16 +105,16 @@ choice-spec =
     next-requires-2
     returns
     returns-2
-    mul-if3
-    shared-slice-read-if3
+    (λ c. search needs)
+    (λ c. search needs)
     mul-if3-2
     add-if3
-    mul-if3-3
-    shared-slice-read-if3-2
+    (λ c. search needs)
+    (λ c. search needs)
     returns-3
-    shared-slice-read-with-line
-    with-line-requires
-    judge-requires
-    reaches-requires
+    (λ c. search needs)
+    (λ c κs. search needs)
+    (λ c κs. search needs)
+    (λ c κs. search needs)
     returns-4
     returns-5)

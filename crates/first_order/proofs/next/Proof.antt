@@ -18,12 +18,6 @@ abbrev μ-loop : tie.MeasureT-loop
 loop-holds : tie.Need-loop-holds Inv-loop μ-loop
 loop-holds c = (refl, c .before .pre)
 
-shared-slice-read-is-kind : tie.Need-shared-slice-read-is-kind Inv-loop μ-loop
-shared-slice-read-is-kind c = search needs
-
-is-kind-requires : tie.Need-is-kind-requires Inv-loop μ-loop
-is-kind-requires c κs = search needs
-
 returns : tie.Need-returns Inv-loop μ-loop
 returns c =
     let b = c .before .before .before .before .before .before in
@@ -55,4 +49,4 @@ returns-2 c =
     (next-end (kind-in (b .args .output .now) (b .args .wanted)) (w .k) (length (b .args .output .now)) (c .loop-test .left) ∙ sym (w .inv .0), w .inv .1)
 
 pub next-spec : {M : Type 1} → statement M
-next-spec = tie.close (tie.spec Inv-loop μ-loop loop-holds shared-slice-read-is-kind is-kind-requires returns add-k loop-less loop-again returns-2)
+next-spec = tie.close (tie.spec Inv-loop μ-loop loop-holds (λ c. search needs) (λ c κs. search needs) returns add-k loop-less loop-again returns-2)

@@ -24,9 +24,6 @@ run b = lent (b .args .output .now) (b .args .action .now) (b .args .stamp .now)
 abbrev entry : tie.In-loop Inv-loop μ-loop → tie.Start Inv-loop μ-loop
 entry i = i .before .before .before .before .before .before .before
 
-start-requires : tie.Need-start-requires Inv-loop μ-loop
-start-requires c κs = search needs
-
 loop-holds : tie.Need-loop-holds Inv-loop μ-loop
 loop-holds c =
     let b = c .before .before .before .before .before in
@@ -93,7 +90,7 @@ order-spec =
     (tie.spec
     Inv-loop
     μ-loop
-    start-requires
+    (λ c κs. search needs)
     loop-holds
     choice-requires
     shared-slice-read-with-line

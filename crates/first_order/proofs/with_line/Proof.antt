@@ -4,12 +4,6 @@ use Rattle.first_order.proofs.WithLine.{line-behind}
 use Rattle.first_order.proofs.with_line.Statement.{statement}
 use Rattle.first_order.proofs.with_line.Tie as tie
 
-moved-requires : tie.Need-moved-requires
-moved-requires c κs = search needs
-
-add-behind : tie.Need-add-behind
-add-behind c = search needs
-
 returns : tie.Need-returns
 returns c =
     let m = c .before .moved in
@@ -25,4 +19,4 @@ returns-2 c =
     (line-behind (a .p) (b .pre .0) (a .from) (a .output) (a .action) (a .k) (m .result) (m .ensures) (c .if1 .left), m .ensures .fits)
 
 pub with-line-spec : {M : Type 1} → statement M
-with-line-spec = tie.close (tie.spec moved-requires add-behind returns returns-2)
+with-line-spec = tie.close (tie.spec (λ c κs. search needs) (λ c. search needs) returns returns-2)

@@ -5,9 +5,6 @@ use Rattle.first_order.proofs.Writing.{numbers-within, both-written}
 use Rattle.first_order.proofs.write.Statement.{statement}
 use Rattle.first_order.proofs.write.Tie as tie
 
-order-requires : tie.Need-order-requires
-order-requires c κs = search needs
-
 earliest-requires : tie.Need-earliest-requires
 earliest-requires c κs =
     let o = c .before .before .before .before in
@@ -21,12 +18,6 @@ earliest-requires c κs =
       ),
     )
 
-same-length : tie.Need-same-length
-same-length c = search needs
-
-same-length-2 : tie.Need-same-length-2
-same-length-2 c = search needs
-
 returns : tie.Need-returns
 returns c =
     let o = c .before .before .before .before .before .before in
@@ -35,4 +26,4 @@ returns c =
     both-written (a .p) (a .output .now) (a .action .now) (a .stamp .now) (a .breaking) (b .pre .0 .2) _ _ (o .order .ensures) _ _ (c .before .earliest .ensures)
 
 pub write-spec : {M : Type 1} → statement M
-write-spec = tie.close (tie.spec order-requires earliest-requires same-length same-length-2 returns)
+write-spec = tie.close (tie.spec (λ c κs. search needs) earliest-requires (λ c. search needs) (λ c. search needs) returns)

@@ -20,24 +20,12 @@ call b = mark-at (b .args .lost) (b .args .stamp)
 abbrev entered : tie.Else1 → tie.Start
 entered e = e .before .before .before
 
-refused-requires : tie.Need-refused-requires
-refused-requires c κs = search needs
-
-unmoved-requires : tie.Need-unmoved-requires
-unmoved-requires c κs = search needs
-
 returns : tie.Need-returns
 returns c =
     let t = c .before in
     let number = t .before in
     let b = number .before .before in
     refused-leads (entry b) (b .pre) (call b) (number .refused .result) (sym (number .refused .ensures)) (t .if1 .taken) (c .unmoved .result) (c .unmoved .ensures)
-
-marked-requires : tie.Need-marked-requires
-marked-requires c κs = search needs
-
-blinded-requires : tie.Need-blinded-requires
-blinded-requires c κs = search needs
 
 returns-2 : tie.Need-returns-2
 returns-2 c =
@@ -47,12 +35,6 @@ returns-2 c =
     let number = e .before .refused in
     marked-blind (entry b) (b .pre) (b .args .lost) (b .args .stamp) (number .result) (number .ensures) (e .if1 .left) (k .marked .result) (k .marked .ensures (record { lost = b .args .lost; stamp = b .args .stamp }) refl)
     (c .before .if2 .taken) (c .blinded .result) (c .blinded .ensures)
-
-verdict-requires : tie.Need-verdict-requires
-verdict-requires c κs = search needs
-
-blinded-requires-2 : tie.Need-blinded-requires-2
-blinded-requires-2 c κs = search needs
 
 returns-3 : tie.Need-returns-3
 returns-3 c =
@@ -69,12 +51,12 @@ pub mark-spec : {M : Type 1} → statement M
 mark-spec =
     tie.close
     (tie.spec
-    refused-requires
-    unmoved-requires
+    (λ c κs. search needs)
+    (λ c κs. search needs)
     returns
-    marked-requires
-    blinded-requires
+    (λ c κs. search needs)
+    (λ c κs. search needs)
     returns-2
-    verdict-requires
-    blinded-requires-2
+    (λ c κs. search needs)
+    (λ c κs. search needs)
     returns-3)

@@ -13,9 +13,6 @@ use Rattle.held.proofs.append.Tie as tie
 abbrev start : tie.After-put-arg2 → tie.Start
 start k = k .before .before .before .before
 
-put-requires : tie.Need-put-requires
-put-requires c κs = search needs
-
 put-requires-2 : tie.Need-put-requires-2
 put-requires-2 c κs =
     let b = start c in
@@ -26,9 +23,6 @@ put-requires-2 c κs =
     (room-with (b .args .rows .now) s 0 (s .count) (b .args .stamp) (b .pre) (omega (arith, b .pre .shared)) (b .pre .few)) in
     (one, one .shared, b .pre .few)
 
-same-length : tie.Need-same-length
-same-length c = search needs
-
 returns : tie.Need-returns
 returns c =
     let k = c .before .before in
@@ -36,4 +30,4 @@ returns c =
     c .before .put2 .ensures ∙ ap (λ (r : List (List ℕ)). with r s 1 (s .count) (start k .args .action)) (k .before .before .put .ensures)
 
 pub append-spec : {M : Type 1} → statement M
-append-spec = tie.close (tie.spec put-requires put-requires-2 same-length returns)
+append-spec = tie.close (tie.spec (λ c κs. search needs) put-requires-2 (λ c. search needs) returns)

@@ -21,14 +21,8 @@ turn k = k .before .before
 abbrev entry : tie.After-word Inv-loop μ-loop → tie.Start Inv-loop μ-loop
 entry k = turn k .before
 
-mul-wide : tie.Need-mul-wide Inv-loop μ-loop
-mul-wide c = search needs
-
 loop-holds : tie.Need-loop-holds Inv-loop μ-loop
 loop-holds c = (search needs, λ k h. absurd (not-suc-le-zero h))
-
-word-requires : tie.Need-word-requires Inv-loop μ-loop
-word-requires c κs = search needs
 
 add-if1 : tie.Need-add-if1 Inv-loop μ-loop
 add-if1 c = record { fits = omega (arith, c .word .ensures, entry c .pre .2 (turn c .loop .i) (omega arith)) }
@@ -37,12 +31,6 @@ returns : tie.Need-returns Inv-loop μ-loop
 returns c =
     let w = turn (c .before) .loop in
     record { within = w .inv .0; closed = w .inv .1; next = λ h. omega (arith, c .before .word .ensures, c .if1 .taken) }
-
-add-i : tie.Need-add-i Inv-loop μ-loop
-add-i c = search needs
-
-loop-less : tie.Need-loop-less Inv-loop μ-loop
-loop-less c = search needs
 
 loop-again : tie.Need-loop-again Inv-loop μ-loop
 loop-again c =
@@ -61,12 +49,12 @@ closed-count-spec =
     (tie.spec
     Inv-loop
     μ-loop
-    mul-wide
+    (λ c. search needs)
     loop-holds
-    word-requires
+    (λ c κs. search needs)
     add-if1
     returns
-    add-i
-    loop-less
+    (λ c. search needs)
+    (λ c. search needs)
     loop-again
     returns-2)

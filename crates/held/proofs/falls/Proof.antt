@@ -39,12 +39,6 @@ compared k = sym (ap₂ ltb (k .before .next-stamp .ensures) (k .word .ensures))
 loop-holds : tie.Need-loop-holds Inv-loop μ-loop
 loop-holds c = (search needs, λ k h. absurd (not-suc-le-zero h))
 
-next-stamp-requires : tie.Need-next-stamp-requires Inv-loop μ-loop
-next-stamp-requires c κs = search needs
-
-word-requires : tie.Need-word-requires Inv-loop μ-loop
-word-requires c κs = search needs
-
 returns : tie.Need-returns Inv-loop μ-loop
 returns c =
     let k = c .before in
@@ -52,12 +46,6 @@ returns c =
     sym
     (below-here (a .span .count) (above (a .rows .now) (a .span) (a .latest)) (turn k .loop .i) (omega arith)
     (compared k ∙ lt-ltb _ _ (c .if1 .taken)))
-
-add-i : tie.Need-add-i Inv-loop μ-loop
-add-i c = search needs
-
-loop-less : tie.Need-loop-less Inv-loop μ-loop
-loop-less c = search needs
 
 loop-again : tie.Need-loop-again Inv-loop μ-loop
 loop-again c =
@@ -76,10 +64,10 @@ falls-spec =
     Inv-loop
     μ-loop
     loop-holds
-    next-stamp-requires
-    word-requires
+    (λ c κs. search needs)
+    (λ c κs. search needs)
     returns
-    add-i
-    loop-less
+    (λ c. search needs)
+    (λ c. search needs)
     loop-again
     returns-2)

@@ -10,12 +10,6 @@ use borrow.Author.Needs.{needs}
 use Rattle.held.proofs.next_stamp.Statement.{statement}
 use Rattle.held.proofs.next_stamp.Tie as tie
 
-add-j : tie.Need-add-j
-add-j c = search needs
-
-word-requires : tie.Need-word-requires
-word-requires c κs = search needs
-
 returns : tie.Need-returns
 returns c =
     let t = c .before in
@@ -27,4 +21,4 @@ returns-2 : tie.Need-returns-2
 returns-2 c = simp (le-ltb (suc (c .before .before .args .i)) (c .before .before .args .span .count) (omega arith))
 
 pub next-stamp-spec : {M : Type 1} → statement M
-next-stamp-spec = tie.close (tie.spec add-j word-requires returns returns-2)
+next-stamp-spec = tie.close (tie.spec (λ c. search needs) (λ c κs. search needs) returns returns-2)

@@ -70,12 +70,6 @@ running k = k .before .before .before
 fits : (f : tie.Else4) → (let a = start (running (f .before .before) .before) .args in a .status .span .count - f .before .before .closed-count .result + cond (a .output) 0 1 ≤ most-open)
 fits f = subst (λ (n : ℕ). n ≤ most-open) (f .before .open-after .ensures) (f .if4 .left)
 
-refused-requires : tie.Need-refused-requires
-refused-requires c κs = search needs
-
-unmoved-requires : tie.Need-unmoved-requires
-unmoved-requires c κs = search needs
-
 returns : tie.Need-returns
 returns c =
     let t = c .before in
@@ -85,15 +79,6 @@ returns c =
     let a = b .args in
     refused-leads (entry b) (b .pre .0) (call b) (number .result)
     (line-refused (a .p) (held-in (entry b)) (a .output) (a .action) (a .stamp) (number .result) (number .ensures) (t .if1 .taken)) (t .if1 .taken) (c .unmoved .result) (c .unmoved .ensures)
-
-beyond-requires : tie.Need-beyond-requires
-beyond-requires c κs = search needs
-
-ticked-requires : tie.Need-ticked-requires
-ticked-requires c κs = search needs
-
-blinded-requires : tie.Need-blinded-requires
-blinded-requires c κs = search needs
 
 returns-2 : tie.Need-returns-2
 returns-2 c =
@@ -105,9 +90,6 @@ returns-2 c =
     skipped-leads (entry b) (b .pre .0) (a .output) (a .action) (a .stamp) (asked e .refused .result) (asked e .refused .ensures) (e .if1 .left) (k .before .if2 .taken)
     (sym (k .beyond .ensures) ∙ not-true _ (near .if3 .taken)) (c .before .ticked .result) (c .before .ticked .ensures (line-of (a .output) (a .action) (a .stamp)) refl)
     (c .blinded .result) (c .blinded .ensures)
-
-ticked-requires-2 : tie.Need-ticked-requires-2
-ticked-requires-2 c κs = search needs
 
 begin-requires : tie.Need-begin-requires
 begin-requires c κs =
@@ -128,9 +110,6 @@ run-on-requires c κs =
       ),
     )
 
-same-length : tie.Need-same-length
-same-length c = search needs
-
 returns-3 : tie.Need-returns-3
 returns-3 c =
     let k = began c in
@@ -150,15 +129,6 @@ closed-count-requires c κs =
     let u = open-usable (entry b) (b .pre .0) (e .if2 .left) in
     (omega (arith, taken-bounds (b .args .p) (u .formed)), u .room, u .stamps)
 
-open-after-requires : tie.Need-open-after-requires
-open-after-requires c κs = search needs
-
-unmoved-requires-2 : tie.Need-unmoved-requires-2
-unmoved-requires-2 c κs = search needs
-
-same-length-2 : tie.Need-same-length-2
-same-length-2 c = search needs
-
 returns-4 : tie.Need-returns-4
 returns-4 c =
     let t = c .before in
@@ -172,9 +142,6 @@ returns-4 c =
     (subst (λ (n : ℕ). most-open < n) (t .before .open-after .ensures) (t .if4 .taken)))
     (λ z. omega arith) (c .unmoved2 .result) (c .unmoved2 .ensures)
 
-ticked-requires-3 : tie.Need-ticked-requires-3
-ticked-requires-3 c κs = search needs
-
 run-on-requires-2 : tie.Need-run-on-requires-2
 run-on-requires-2 c κs =
     let f = c .before .before in
@@ -182,9 +149,6 @@ run-on-requires-2 c κs =
     let e = running k .before in
     let b = start e in
     ((open-usable (entry b) (b .pre .0) (running k .if2 .left), b .pre .1), (k .closed-count .ensures, in-time e, fits f))
-
-same-length-3 : tie.Need-same-length-3
-same-length-3 c = search needs
 
 returns-5 : tie.Need-returns-5
 returns-5 c =
@@ -204,24 +168,24 @@ pub line-spec : {M : Type 1} → statement M
 line-spec =
     tie.close
     (tie.spec
-    refused-requires
-    unmoved-requires
+    (λ c κs. search needs)
+    (λ c κs. search needs)
     returns
-    beyond-requires
-    ticked-requires
-    blinded-requires
+    (λ c κs. search needs)
+    (λ c κs. search needs)
+    (λ c κs. search needs)
     returns-2
-    ticked-requires-2
+    (λ c κs. search needs)
     begin-requires
     run-on-requires
-    same-length
+    (λ c. search needs)
     returns-3
     closed-count-requires
-    open-after-requires
-    unmoved-requires-2
-    same-length-2
+    (λ c κs. search needs)
+    (λ c κs. search needs)
+    (λ c. search needs)
     returns-4
-    ticked-requires-3
+    (λ c κs. search needs)
     run-on-requires-2
-    same-length-3
+    (λ c. search needs)
     returns-5)

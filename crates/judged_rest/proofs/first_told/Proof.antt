@@ -17,11 +17,8 @@ another v w line k h = ap (λ (b : Bool). cond b line (k + 1)) (sym (ne-eqb v w 
 returns : tie.Need-returns
 returns c = same _ _ _ _ (c .if1 .taken)
 
-add-result : tie.Need-add-result
-add-result c = search needs
-
 returns-2 : tie.Need-returns-2
 returns-2 c = another _ _ _ _ (c .if1 .left)
 
 pub first-told-spec : {M : Type 1} → statement M
-first-told-spec = tie.close (tie.spec returns add-result returns-2)
+first-told-spec = tie.close (tie.spec returns (λ c. search needs) returns-2)

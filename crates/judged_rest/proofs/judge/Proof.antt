@@ -63,23 +63,8 @@ room k =
     let few : k .spanning .result .count ≡ 0 = ap (λ (s : Span). s .count) (k .spanning .ensures) in
     four-room (replicate 65 0) (replicate 65 0) (replicate 65 0) (replicate 65 0) refl refl refl refl (k .spanning .result) (omega arith)
 
-spanning-requires : tie.Need-spanning-requires Inv-loop μ-loop
-spanning-requires c κs = search needs
-
-slice-aggregate-put-cut : tie.Need-slice-aggregate-put-cut Inv-loop μ-loop
-slice-aggregate-put-cut c = search needs
-
 put-cut-requires : tie.Need-put-cut-requires Inv-loop μ-loop
 put-cut-requires c κs = (room (c .before), omega arith, omega arith)
-
-fresh-requires : tie.Need-fresh-requires Inv-loop μ-loop
-fresh-requires c κs = search needs
-
-verdict-requires : tie.Need-verdict-requires Inv-loop μ-loop
-verdict-requires c κs = search needs
-
-cast-t20 : tie.Need-cast-t20 Inv-loop μ-loop
-cast-t20 c = search needs
 
 loop-holds : tie.Need-loop-holds Inv-loop μ-loop
 loop-holds c =
@@ -93,31 +78,10 @@ loop-holds c =
     (s .spanning .ensures) (c .before .fresh .ensures) (k .put-cut .ensures) (run b) (a .from) refl _ (c .verdict .ensures (a .p) fits) in
     (begun .0, begun .1, omega arith, search needs)
 
-slice-aggregate-turn : tie.Need-slice-aggregate-turn Inv-loop μ-loop
-slice-aggregate-turn c = search needs
-
-shared-slice-read-turn : tie.Need-shared-slice-read-turn Inv-loop μ-loop
-shared-slice-read-turn c = search needs
-
-shared-slice-read-turn-2 : tie.Need-shared-slice-read-turn-2 Inv-loop μ-loop
-shared-slice-read-turn-2 c = search needs
-
-mul-turn : tie.Need-mul-turn Inv-loop μ-loop
-mul-turn c = search needs
-
-shared-slice-read-turn-3 : tie.Need-shared-slice-read-turn-3 Inv-loop μ-loop
-shared-slice-read-turn-3 c = search needs
-
-turn-requires : tie.Need-turn-requires Inv-loop μ-loop
-turn-requires c κs = search needs
-
 add-k : tie.Need-add-k Inv-loop μ-loop
 add-k c =
     let i = inside (c .before) in
     omega (arith, i .loop-test .taken, start (i .before .before) .good)
-
-loop-less : tie.Need-loop-less Inv-loop μ-loop
-loop-less c = search needs
 
 loop-again : tie.Need-loop-again Inv-loop μ-loop
 loop-again c =
@@ -142,20 +106,20 @@ judge-spec =
     (tie.spec
     Inv-loop
     μ-loop
-    spanning-requires
-    slice-aggregate-put-cut
+    (λ c κs. search needs)
+    (λ c. search needs)
     put-cut-requires
-    fresh-requires
-    verdict-requires
-    cast-t20
+    (λ c κs. search needs)
+    (λ c κs. search needs)
+    (λ c. search needs)
     loop-holds
-    slice-aggregate-turn
-    shared-slice-read-turn
-    shared-slice-read-turn-2
-    mul-turn
-    shared-slice-read-turn-3
-    turn-requires
+    (λ c. search needs)
+    (λ c. search needs)
+    (λ c. search needs)
+    (λ c. search needs)
+    (λ c. search needs)
+    (λ c κs. search needs)
     add-k
-    loop-less
+    (λ c. search needs)
     loop-again
     returns)

@@ -4,11 +4,8 @@ use Rattle.judged_rest.proofs.Steps.{told-at}
 use Rattle.judged_rest.proofs.told.Statement.{statement}
 use Rattle.judged_rest.proofs.told.Tie as tie
 
-first-told-requires : tie.Need-first-told-requires
-first-told-requires c κs = search needs
-
 returns : tie.Need-returns
 returns c = told-at _ _ _ _ (c .before .pre .0) (c .first-told .ensures)
 
 pub told-spec : {M : Type 1} → statement M
-told-spec = tie.close (tie.spec first-told-requires returns)
+told-spec = tie.close (tie.spec (λ c κs. search needs) returns)

@@ -47,9 +47,6 @@ returns c =
     let a = b .args in
     turn-refused (a .from) (a .output) (line b) (a .k) (entry b) (a .here .told) (b .pre .0) (c .if1 .taken)
 
-waits-requires : tie.Need-waits-requires
-waits-requires c κs = search needs
-
 returns-2 : tie.Need-returns-2
 returns-2 c =
     let e = c .before .before in
@@ -57,15 +54,6 @@ returns-2 c =
     let a = b .args in
     turn-passed (a .from) (a .output) (line b) (a .k) (entry b) (a .here .told) (b .pre .0) (e .if1 .left)
     (sym (c .before .waits .ensures) ∙ not-true _ (c .if2 .taken))
-
-line-requires : tie.Need-line-requires
-line-requires c κs = search needs
-
-refused-requires : tie.Need-refused-requires
-refused-requires c κs = search needs
-
-same-length : tie.Need-same-length
-same-length c = search needs
 
 returns-3 : tie.Need-returns-3
 returns-3 c =
@@ -76,12 +64,6 @@ returns-3 c =
     let a = b .args in
     turn-not-taken (entry b) (b .pre .0) (a .from) (a .output) (line b) (a .k) (a .here .told) (e .if1 .left) (waited w) _ _ (l .line .ensures)
     (c .before .if3 .taken) _ (c .refused .ensures)
-
-told-requires : tie.Need-told-requires
-told-requires c κs = search needs
-
-same-length-2 : tie.Need-same-length-2
-same-length-2 c = search needs
 
 returns-4 : tie.Need-returns-4
 returns-4 c =
@@ -98,12 +80,12 @@ turn-spec =
     tie.close
     (tie.spec
     returns
-    waits-requires
+    (λ c κs. search needs)
     returns-2
-    line-requires
-    refused-requires
-    same-length
+    (λ c κs. search needs)
+    (λ c κs. search needs)
+    (λ c. search needs)
     returns-3
-    told-requires
-    same-length-2
+    (λ c κs. search needs)
+    (λ c. search needs)
     returns-4)

@@ -6,15 +6,9 @@ use Rattle.line_text.specs.Append.{append}
 use Rattle.line_text.proofs.put.Statement.{statement}
 use Rattle.line_text.proofs.put.Tie as tie
 
-element-write-r : tie.Need-element-write-r
-element-write-r c = search needs
-
-add-r : tie.Need-add-r
-add-r c = search needs
-
 returns : tie.Need-returns
 unfolding append
 returns c = record { text = refl; longer = omega arith }
 
 pub put-spec : {M : Type 1} → statement M
-put-spec = tie.close (tie.spec element-write-r add-r returns)
+put-spec = tie.close (tie.spec (λ c. search needs) (λ c. search needs) returns)

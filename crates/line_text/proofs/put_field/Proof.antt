@@ -4,14 +4,8 @@ use borrow.Author.Needs.{needs}
 use Rattle.line_text.proofs.put_field.Statement.{statement}
 use Rattle.line_text.proofs.put_field.Tie as tie
 
-put-number-requires : tie.Need-put-number-requires
-put-number-requires c κs = search needs
-
-put-requires : tie.Need-put-requires
-put-requires c κs = search needs
-
 returns : tie.Need-returns
 returns c = then (c .before .put-number .ensures) (c .put .ensures)
 
 pub put-field-spec : {M : Type 1} → statement M
-put-field-spec = tie.close (tie.spec put-number-requires put-requires returns)
+put-field-spec = tie.close (tie.spec (λ c κs. search needs) (λ c κs. search needs) returns)

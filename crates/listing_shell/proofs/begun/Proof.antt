@@ -11,21 +11,6 @@ use borrow.Author.Needs.{needs}
 use Rattle.listing_shell.proofs.begun.Statement.{statement}
 use Rattle.listing_shell.proofs.begun.Tie as tie
 
-slice-aggregate-read-form : tie.Need-slice-aggregate-read-form
-slice-aggregate-read-form c = search needs
-
-read-form-requires : tie.Need-read-form-requires
-read-form-requires c κs = search needs
-
-array-share-prefix-form : tie.Need-array-share-prefix-form
-array-share-prefix-form c = search needs
-
-slice-aggregate-begin : tie.Need-slice-aggregate-begin
-slice-aggregate-begin c = search needs
-
-begin-requires : tie.Need-begin-requires
-begin-requires c κs = search needs
-
 returns : tie.Need-returns
 returns c =
     subst (λ (p : Printed). (p .text .len ≤ room) × (p .more ≡ true → out-of-range (p .session) ≡ false)) (sym (c .begin .ensures)) (begun-fits _, begins-fit _)
@@ -33,10 +18,4 @@ returns c =
 pub begun-spec : {M : Type 1} → statement M
 begun-spec =
     tie.close
-    (tie.spec
-    slice-aggregate-read-form
-    read-form-requires
-    array-share-prefix-form
-    slice-aggregate-begin
-    begin-requires
-    returns)
+    (tie.spec (λ c. search needs) (λ c κs. search needs) (λ c. search needs) (λ c. search needs) (λ c κs. search needs) returns)

@@ -9,17 +9,8 @@ use borrow.Author.Needs.{needs}
 use Rattle.listing_shell.proofs.list.Statement.{statement}
 use Rattle.listing_shell.proofs.list.Tie as tie
 
-header-requires : tie.Need-header-requires
-header-requires c κs = search needs
-
 write-requires : tie.Need-write-requires
 write-requires c κs = subst (λ (t : Text). t .len ≤ room) (sym (c .header .ensures)) (text-len _ header-fits)
-
-returns : tie.Need-returns
-returns c = search needs
-
-begun-requires : tie.Need-begun-requires
-begun-requires c κs = search needs
 
 shown-requires : tie.Need-shown-requires
 shown-requires c κs = c .begun .ensures .0
@@ -27,21 +18,15 @@ shown-requires c κs = c .begun .ensures .0
 records-requires : tie.Need-records-requires
 records-requires c κs = c .before .before .begun .ensures .1 (c .before .shown .ensures (c .if2 .taken))
 
-returns-2 : tie.Need-returns-2
-returns-2 c = search needs
-
-returns-3 : tie.Need-returns-3
-returns-3 c = search needs
-
 pub list-spec : {M : Type 1} → statement M
 list-spec =
     tie.close
     (tie.spec
-    header-requires
+    (λ c κs. search needs)
     write-requires
-    returns
-    begun-requires
+    (λ c. search needs)
+    (λ c κs. search needs)
     shown-requires
     records-requires
-    returns-2
-    returns-3)
+    (λ c. search needs)
+    (λ c. search needs))

@@ -25,32 +25,17 @@ fits : (n : ℕ) (form : Form) → n ≡ size-of form → n ≤ 6
 fits n Record e = omega arith
 fits n Tap e = omega arith
 
-record-size-requires : tie.Need-record-size-requires
-record-size-requires c κs = search needs
-
 array-borrow-prefix-bytes : tie.Need-array-borrow-prefix-bytes
 array-borrow-prefix-bytes c = fits _ (c .before .args .form) (c .record-size .ensures)
 
 slice-aggregate-read-full : tie.Need-slice-aggregate-read-full
 slice-aggregate-read-full c = counts _ _ (array-borrow-prefix-bytes (c .before)) .1
 
-read-full-requires : tie.Need-read-full-requires
-read-full-requires c κs = search needs
-
 array-share-prefix-bytes : tie.Need-array-share-prefix-bytes
 array-share-prefix-bytes c = simp length-append (omega (arith, c .before .before .read-full .ensures .0))
 
 slice-aggregate-read-record : tie.Need-slice-aggregate-read-record
 slice-aggregate-read-record c = counts _ _ (array-share-prefix-bytes (c .before)) .1
-
-read-record-requires : tie.Need-read-record-requires
-read-record-requires c κs = search needs
-
-record-requires : tie.Need-record-requires
-record-requires c κs = search needs
-
-same-length : tie.Need-same-length
-same-length c = search needs
 
 returns : tie.Need-returns
 returns c =
@@ -66,13 +51,13 @@ pub next-spec : {M : Type 1} → statement M
 next-spec =
     tie.close
     (tie.spec
-    record-size-requires
+    (λ c κs. search needs)
     array-borrow-prefix-bytes
     slice-aggregate-read-full
-    read-full-requires
+    (λ c κs. search needs)
     array-share-prefix-bytes
     slice-aggregate-read-record
-    read-record-requires
-    record-requires
-    same-length
+    (λ c κs. search needs)
+    (λ c κs. search needs)
+    (λ c. search needs)
     returns)

@@ -14,44 +14,11 @@ use Rattle.listing_shell.proofs.read_form.Tie as tie
 part-counts : (k r : ℕ) (xs ys : List ℕ) → 0 < length xs → r ≤ length ys → Counts (1 + r) (putMid 1 k xs ys)
 part-counts k r xs ys h l = counts (1 + r) (putMid 1 k xs ys) (simp length-append (omega (arith, length-take 1 xs)))
 
-slice-relend-prefix-read-full : tie.Need-slice-relend-prefix-read-full
-slice-relend-prefix-read-full c = search needs
-
 slice-aggregate-read-full : tie.Need-slice-aggregate-read-full
 slice-aggregate-read-full c = counts 1 (c .before .before .args .form .now) (omega arith) .1
 
-read-full-requires : tie.Need-read-full-requires
-read-full-requires c κs = search needs
-
-same-length : tie.Need-same-length
-same-length c = search needs
-
-returns : tie.Need-returns
-returns c = search needs
-
 slice-read-size : tie.Need-slice-read-size
 slice-read-size c = search needs
-
-size-requires : tie.Need-size-requires
-size-requires c κs = search needs
-
-sub-read-full : tie.Need-sub-read-full
-sub-read-full c = search needs
-
-part-read-full-start : tie.Need-part-read-full-start
-part-read-full-start c = search needs
-
-part-read-full-end : tie.Need-part-read-full-end
-part-read-full-end c = search needs
-
-read-full-requires-2 : tie.Need-read-full-requires-2
-read-full-requires-2 c κs = search needs
-
-add-result : tie.Need-add-result
-add-result c = search needs
-
-same-length-2 : tie.Need-same-length-2
-same-length-2 c = search needs
 
 returns-2 : tie.Need-returns-2
 returns-2 c =
@@ -66,17 +33,17 @@ pub read-form-spec : {M : Type 1} → statement M
 read-form-spec =
     tie.close
     (tie.spec
-    slice-relend-prefix-read-full
+    (λ c. search needs)
     slice-aggregate-read-full
-    read-full-requires
-    same-length
-    returns
+    (λ c κs. search needs)
+    (λ c. search needs)
+    (λ c. search needs)
     slice-read-size
-    size-requires
-    sub-read-full
-    part-read-full-start
-    part-read-full-end
-    read-full-requires-2
-    add-result
-    same-length-2
+    (λ c κs. search needs)
+    (λ c. search needs)
+    (λ c. search needs)
+    (λ c. search needs)
+    (λ c κs. search needs)
+    (λ c. search needs)
+    (λ c. search needs)
     returns-2)

@@ -8,18 +8,6 @@ use borrow.Author.Needs.{needs}
 use Rattle.listing_shell.proofs.read_record.Statement.{statement}
 use Rattle.listing_shell.proofs.read_record.Tie as tie
 
-enum-told : tie.Need-enum-told
-enum-told c = search needs
-
-read-record-requires : tie.Need-read-record-requires
-read-record-requires c κs = search needs
-
-enum-told-2 : tie.Need-enum-told-2
-enum-told-2 c = search needs
-
-read-tap-requires : tie.Need-read-tap-requires
-read-tap-requires c κs = search needs
-
 returns : tie.Need-returns
 returns c =
     let a = c .before .before .before .before .args in
@@ -33,4 +21,4 @@ returns-2 c =
 pub read-record-spec : {M : Type 1} → statement M
 read-record-spec =
     tie.close
-    (tie.spec enum-told read-record-requires enum-told-2 read-tap-requires returns returns-2)
+    (tie.spec (λ c. search needs) (λ c κs. search needs) (λ c. search needs) (λ c κs. search needs) returns returns-2)

@@ -33,17 +33,11 @@ shown e = e .before .before .before
 table-requires : tie.Need-table-requires Inv-loop μ-loop
 table-requires c κs = let b = c .before .before in ranged (b .args .s) (b .pre) .formed
 
-rows-of-requires : tie.Need-rows-of-requires Inv-loop μ-loop
-rows-of-requires c κs = search needs
-
 loop-holds : tie.Need-loop-holds Inv-loop μ-loop
 loop-holds c =
     let k = c .before in
     let b = entry k in
     (lent-ready (b .args .s) (b .pre) (k .rows-of .result) (k .rows-of .ensures .0) (k .rows-of .ensures .2), k .rows-of .ensures .1)
-
-slice-aggregate-next : tie.Need-slice-aggregate-next Inv-loop μ-loop
-slice-aggregate-next c = search needs
 
 next-requires : tie.Need-next-requires Inv-loop μ-loop
 next-requires c κs = let t = turn c in (t .loop .inv .0, made t .before .table .ensures)
@@ -73,9 +67,9 @@ records-spec =
     Inv-loop
     μ-loop
     table-requires
-    rows-of-requires
+    (λ c κs. search needs)
     loop-holds
-    slice-aggregate-next
+    (λ c. search needs)
     next-requires
     shown-requires
     returns

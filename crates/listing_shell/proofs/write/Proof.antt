@@ -10,8 +10,5 @@ slice-aggregate-write-front c = search needs
 write-front-requires : tie.Need-write-front-requires
 write-front-requires c κs = omega (arith, slice-aggregate-write-front c)
 
-returns : tie.Need-returns
-returns c = search needs
-
 pub write-spec : {M : Type 1} → statement M
-write-spec = tie.close (tie.spec slice-aggregate-write-front write-front-requires returns)
+write-spec = tie.close (tie.spec slice-aggregate-write-front write-front-requires (λ c. search needs))

@@ -8,11 +8,5 @@ use Rattle.listing_shell.proofs.write_front.Tie as tie
 slice-aggregate-write-all : tie.Need-slice-aggregate-write-all
 slice-aggregate-write-all c = counts (c .before .before .args .len) (c .before .before .args .bytes .now) (omega arith) .1
 
-write-all-requires : tie.Need-write-all-requires
-write-all-requires c κs = search needs
-
-returns : tie.Need-returns
-returns c = search needs
-
 pub write-front-spec : {M : Type 1} → statement M
-write-front-spec = tie.close (tie.spec slice-aggregate-write-all write-all-requires returns)
+write-front-spec = tie.close (tie.spec slice-aggregate-write-all (λ c κs. search needs) (λ c. search needs))

@@ -10,17 +10,11 @@ use Rattle.matcher.proofs.Words.{few-lengths, arranged-words}
 use Rattle.matcher.proofs.arranged.Statement.{statement}
 use Rattle.matcher.proofs.arranged.Tie as tie
 
-shl-low : tie.Need-shl-low
-shl-low c = search needs
-
 sub-low : tie.Need-sub-low
 sub-low c = ones-pos (c .args .n) (c .pre .0)
 
 sub-both : tie.Need-sub-both
 sub-both c = omega (arith, kept-le (c .args .free) (c .args .n))
-
-both-requires : tie.Need-both-requires
-both-requires c κs = search needs
 
 mul-t9 : tie.Need-mul-t9
 mul-t9 c =
@@ -45,4 +39,4 @@ returns c =
     (arranged-words (a .n) (a .free) (a .still) (a .broken) (pre .1) (pre .2) (pre .3)))
 
 pub arranged-spec : {M : Type 1} → statement M
-arranged-spec = tie.close (tie.spec shl-low sub-low sub-both both-requires mul-t9 add-t7 returns)
+arranged-spec = tie.close (tie.spec (λ c. search needs) sub-low sub-both (λ c κs. search needs) mul-t9 add-t7 returns)

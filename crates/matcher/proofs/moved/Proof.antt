@@ -45,17 +45,8 @@ asks c m low =
     let a = b .args in
     step-asks (a .p) (b .pre .0) (a .table .now) (b .pre .1) (a .output) (a .action) (c .row .result) (c .row .ensures) m low
 
-row-requires : tie.Need-row-requires
-row-requires c κs = search needs
-
-outside-requires : tie.Need-outside-requires
-outside-requires c κs = search needs
-
 step-requires : tie.Need-step-requires
 step-requires c κs = let r = at-second (c .before) in asks r _ (mask-low r)
-
-with-broken-requires : tie.Need-with-broken-requires
-with-broken-requires c κs = search needs
 
 arranged-requires : tie.Need-arranged-requires
 arranged-requires c κs =
@@ -73,9 +64,6 @@ returns c =
     outside-moves (a .p) (b .pre .0) (a .table .now) (b .pre .1) (a .output) (a .action) (r .row .result) (r .row .ensures) (a .cut) (b .pre .2)
     (sym (t .before .outside .ensures (a .p) refl) ∙ t .if2 .taken)
     (c .before .with-broken .ensures) (c .before .before .step .ensures .0) (c .arranged .ensures)
-
-both-requires : tie.Need-both-requires
-both-requires c κs = search needs
 
 step-requires-2 : tie.Need-step-requires-2
 step-requires-2 c κs =
@@ -125,13 +113,13 @@ pub moved-spec : {M : Type 1} → statement M
 moved-spec =
     tie.close
     (tie.spec
-    row-requires
-    outside-requires
+    (λ c κs. search needs)
+    (λ c κs. search needs)
     step-requires
-    with-broken-requires
+    (λ c κs. search needs)
     arranged-requires
     returns
-    both-requires
+    (λ c κs. search needs)
     step-requires-2
     arranged-requires-2
     returns-2

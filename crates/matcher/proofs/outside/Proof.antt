@@ -4,12 +4,6 @@ use borrow.Author.Needs.{needs}
 use Rattle.matcher.proofs.outside.Statement.{statement}
 use Rattle.matcher.proofs.outside.Tie as tie
 
-cast-if2 : tie.Need-cast-if2
-cast-if2 c = search needs
-
-shr-result : tie.Need-shr-result
-shr-result c = search needs
-
 returns : tie.Need-returns
 returns c =
     let a = c .before .before .args in
@@ -27,4 +21,4 @@ returns-3 c =
     λ p q. input-inside p (a .allowed) (a .action) (a .output) q (c .if1 .left)
 
 pub outside-spec : {M : Type 1} → statement M
-outside-spec = tie.close (tie.spec cast-if2 shr-result returns returns-2 returns-3)
+outside-spec = tie.close (tie.spec (λ c. search needs) (λ c. search needs) returns returns-2 returns-3)

@@ -56,9 +56,6 @@ cast-r c = record { fits = omega (arith, goes-low (c .before)) }
 shl-r : tie.Need-shl-r Inv-loop μ-loop
 shl-r c = omega (arith, goes-low (c .before))
 
-sub-rest : tie.Need-sub-rest Inv-loop μ-loop
-sub-rest c = search needs
-
 loop-less : tie.Need-loop-less Inv-loop μ-loop
 loop-less c = rest-less (c .before .before .loop .rest) (omega arith)
 
@@ -88,16 +85,4 @@ returns c =
 pub step-spec : {M : Type 1} → statement M
 step-spec =
     tie.close
-    (tie.spec
-    Inv-loop
-    μ-loop
-    loop-holds
-    cast-k
-    add-r
-    element-copy-out-r
-    cast-r
-    shl-r
-    sub-rest
-    loop-less
-    loop-again
-    returns)
+    (tie.spec Inv-loop μ-loop loop-holds cast-k add-r element-copy-out-r cast-r shl-r (λ c. search needs) loop-less loop-again returns)

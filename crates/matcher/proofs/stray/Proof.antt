@@ -14,18 +14,6 @@ use Rattle.matcher.proofs.stray.Tie as tie
 abbrev start : tie.Else1 → tie.Start
 start c = c .before .before
 
-add-if1 : tie.Need-add-if1
-add-if1 c = search needs
-
-shr-if1 : tie.Need-shr-if1
-shr-if1 c = search needs
-
-add-result : tie.Need-add-result
-add-result c = search needs
-
-shr-result : tie.Need-shr-result
-shr-result c = search needs
-
 returns : tie.Need-returns
 unfolding stray
 returns c =
@@ -42,4 +30,4 @@ returns-2 c =
     (sym (shifted (a .n + 1) (suc (a .n)) (a .cut .mask) (omega arith)) ∙ le-ltb 0 (a .cut .mask / 2 ^ (a .n + 1)) (c .before .if1 .left)))
 
 pub stray-spec : {M : Type 1} → statement M
-stray-spec = tie.close (tie.spec add-if1 shr-if1 returns add-result shr-result returns-2)
+stray-spec = tie.close (tie.spec (λ c. search needs) (λ c. search needs) returns (λ c. search needs) (λ c. search needs) returns-2)

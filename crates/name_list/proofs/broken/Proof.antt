@@ -39,18 +39,6 @@ returns c = or-here _ (lt-ltb 8192 _ (c .if1 .taken))
 loop-holds : tie.Need-loop-holds Inv-loop μ-loop
 loop-holds c = (omega arith, (length (now (c .before .before .args .list)), omega arith, refl))
 
-sub-entry-broken : tie.Need-sub-entry-broken Inv-loop μ-loop
-sub-entry-broken c = search needs
-
-part-entry-broken-start : tie.Need-part-entry-broken-start Inv-loop μ-loop
-part-entry-broken-start c = search needs
-
-part-entry-broken-end : tie.Need-part-entry-broken-end Inv-loop μ-loop
-part-entry-broken-end c = search needs
-
-entry-broken-requires : tie.Need-entry-broken-requires Inv-loop μ-loop
-entry-broken-requires c κs = search needs
-
 returns-2 : tie.Need-returns-2 Inv-loop μ-loop
 unfolding list-broken
 returns-2 c =
@@ -58,26 +46,8 @@ returns-2 c =
     or-next (le-ltb 8192 (length (L (c .before))) (c .before .before .before .before .before .if1 .left))
     (broken-here (l .inv .1 .0) (l .least) (drop (l .i) (L (c .before))) (some-left (L (c .before)) (l .i) (c .before .before .before .loop-test .taken)) (sym (checked (c .before)) ∙ c .if2 .taken) ∙ l .inv .1 .2)
 
-shared-slice-read-number : tie.Need-shared-slice-read-number Inv-loop μ-loop
-shared-slice-read-number c = search needs
-
-number-requires : tie.Need-number-requires Inv-loop μ-loop
-number-requires c κs = search needs
-
-add-least : tie.Need-add-least Inv-loop μ-loop
-add-least c = search needs
-
-add-number : tie.Need-add-number Inv-loop μ-loop
-add-number c = search needs
-
 shared-slice-read-number-2 : tie.Need-shared-slice-read-number-2 Inv-loop μ-loop
 shared-slice-read-number-2 c = omega (arith, on (c .before .before .before) .fits)
-
-number-requires-2 : tie.Need-number-requires-2 Inv-loop μ-loop
-number-requires-2 c κs = search needs
-
-add-i : tie.Need-add-i Inv-loop μ-loop
-add-i c = search needs
 
 add-i-2 : tie.Need-add-i-2 Inv-loop μ-loop
 add-i-2 c = record { fits = omega (arith, on (c .before .before .before .before) .fits, c .number2 .ensures .0) }
@@ -116,18 +86,18 @@ broken-spec =
     μ-loop
     returns
     loop-holds
-    sub-entry-broken
-    part-entry-broken-start
-    part-entry-broken-end
-    entry-broken-requires
+    (λ c. search needs)
+    (λ c. search needs)
+    (λ c. search needs)
+    (λ c κs. search needs)
     returns-2
-    shared-slice-read-number
-    number-requires
-    add-least
-    add-number
+    (λ c. search needs)
+    (λ c κs. search needs)
+    (λ c. search needs)
+    (λ c. search needs)
     shared-slice-read-number-2
-    number-requires-2
-    add-i
+    (λ c κs. search needs)
+    (λ c. search needs)
     add-i-2
     loop-less
     loop-again

@@ -14,18 +14,9 @@ use Rattle.name_list.proofs.cut_short.Tie as tie
 returns : tie.Need-returns
 returns c = let s = now (c .before .before .args .s) in sym (lt-ltb (length s) (entry-size s) (omega arith))
 
-shared-slice-read-number : tie.Need-shared-slice-read-number
-shared-slice-read-number c = search needs
-
-number-requires : tie.Need-number-requires
-number-requires c κs = search needs
-
-add-result : tie.Need-add-result
-add-result c = search needs
-
 returns-2 : tie.Need-returns-2
 returns-2 c = ap (λ (n : ℕ). ltb (length (now (c .before .before .before .before .args .s))) (2 + n)) (c .number .ensures .0)
 
 pub cut-short-spec : {M : Type 1} → statement M
 cut-short-spec =
-    tie.close (tie.spec returns shared-slice-read-number number-requires add-result returns-2)
+    tie.close (tie.spec returns (λ c. search needs) (λ c κs. search needs) (λ c. search needs) returns-2)

@@ -47,18 +47,12 @@ size c = sym (c .before .size-outside .ensures) ∙ c .if4 .left
 there : (c : tie.Else1) → entry-size (S c) ≤ length (S c)
 there c = ltb-false _ _ (whole c)
 
-cut-short-requires : tie.Need-cut-short-requires
-cut-short-requires c κs = search needs
-
 returns : tie.Need-returns
 unfolding entry-broken
 returns c = or-here _ (sym (c .before .cut-short .ensures) ∙ c .if1 .taken)
 
 shared-slice-read-zero-bit-set : tie.Need-shared-slice-read-zero-bit-set
 shared-slice-read-zero-bit-set c = omega (arith, there (c .before))
-
-zero-bit-set-requires : tie.Need-zero-bit-set-requires
-zero-bit-set-requires c κs = search needs
 
 returns-2 : tie.Need-returns-2
 unfolding entry-broken
@@ -69,9 +63,6 @@ returns-2 c =
 shared-slice-read-number : tie.Need-shared-slice-read-number
 shared-slice-read-number c = omega (arith, there (c .before .before .before .before))
 
-number-requires : tie.Need-number-requires
-number-requires c κs = search needs
-
 returns-3 : tie.Need-returns-3
 unfolding entry-broken
 returns-3 c =
@@ -80,9 +71,6 @@ returns-3 c =
 
 shared-slice-read-size-outside : tie.Need-shared-slice-read-size-outside
 shared-slice-read-size-outside c = omega (arith, there (first-passed (second-passed (c .before))))
-
-size-outside-requires : tie.Need-size-outside-requires
-size-outside-requires c κs = search needs
 
 returns-4 : tie.Need-returns-4
 unfolding entry-broken
@@ -94,23 +82,8 @@ returns-4 c =
 shared-slice-read-number-2 : tie.Need-shared-slice-read-number-2
 shared-slice-read-number-2 c = omega (arith, there (first-passed (second-passed (third-passed (c .before)))))
 
-number-requires-2 : tie.Need-number-requires-2
-number-requires-2 c κs = search needs
-
-add-end : tie.Need-add-end
-add-end c = search needs
-
-sub-any-outside : tie.Need-sub-any-outside
-sub-any-outside c = search needs
-
-part-any-outside-start : tie.Need-part-any-outside-start
-part-any-outside-start c = search needs
-
 part-any-outside-end : tie.Need-part-any-outside-end
 part-any-outside-end c = omega (arith, there (first-passed (second-passed (third-passed (c .before .before)))), c .number2 .ensures .0)
-
-any-outside-requires : tie.Need-any-outside-requires
-any-outside-requires c κs = search needs
 
 returns-5 : tie.Need-returns-5
 unfolding entry-broken
@@ -125,22 +98,22 @@ pub entry-broken-spec : {M : Type 1} → statement M
 entry-broken-spec =
     tie.close
     (tie.spec
-    cut-short-requires
+    (λ c κs. search needs)
     returns
     shared-slice-read-zero-bit-set
-    zero-bit-set-requires
+    (λ c κs. search needs)
     returns-2
     shared-slice-read-number
-    number-requires
+    (λ c κs. search needs)
     returns-3
     shared-slice-read-size-outside
-    size-outside-requires
+    (λ c κs. search needs)
     returns-4
     shared-slice-read-number-2
-    number-requires-2
-    add-end
-    sub-any-outside
-    part-any-outside-start
+    (λ c κs. search needs)
+    (λ c. search needs)
+    (λ c. search needs)
+    (λ c. search needs)
     part-any-outside-end
-    any-outside-requires
+    (λ c κs. search needs)
     returns-5)

@@ -21,20 +21,8 @@ whole c = omega (arith, c .before .size .ensures .0, c .if2 .left)
 returns : tie.Need-returns
 returns c = short-head _ _ _ (c .if1 .taken)
 
-shared-slice-read-size : tie.Need-shared-slice-read-size
-shared-slice-read-size c = search needs
-
-shared-slice-read-size-2 : tie.Need-shared-slice-read-size-2
-shared-slice-read-size-2 c = search needs
-
-size-requires : tie.Need-size-requires
-size-requires c κs = search needs
-
 returns-2 : tie.Need-returns-2
 returns-2 c = short-list _ _ _ (c .before .before .before .before .if1 .left) (omega (arith, c .before .size .ensures .0, c .if2 .taken))
-
-broken-requires : tie.Need-broken-requires
-broken-requires c κs = search needs
 
 returns-3 : tie.Need-returns-3
 returns-3 c =
@@ -52,13 +40,4 @@ returns-5 c = let k = c .before .before in judged _ _ _ (long-head k) (whole k) 
 pub refused-spec : {M : Type 1} → statement M
 refused-spec =
     tie.close
-    (tie.spec
-    returns
-    shared-slice-read-size
-    shared-slice-read-size-2
-    size-requires
-    returns-2
-    broken-requires
-    returns-3
-    returns-4
-    returns-5)
+    (tie.spec returns (λ c. search needs) (λ c. search needs) (λ c κs. search needs) returns-2 (λ c κs. search needs) returns-3 returns-4 returns-5)

@@ -4,14 +4,8 @@ use borrow.Author.Needs.{needs}
 use Rattle.name_list.proofs.size.Statement.{statement}
 use Rattle.name_list.proofs.size.Tie as tie
 
-mul-result : tie.Need-mul-result
-mul-result c = search needs
-
-add-result : tie.Need-add-result
-add-result c = search needs
-
 returns : tie.Need-returns
 returns c = (refl, search needs)
 
 pub size-spec : {M : Type 1} → statement M
-size-spec = tie.close (tie.spec mul-result add-result returns)
+size-spec = tie.close (tie.spec (λ c. search needs) (λ c. search needs) returns)

@@ -13,36 +13,6 @@ use Rattle.named.proofs.front_of.Tie as tie
 shown : (number : ℕ) {x r : RecordRead} → x ≡ r → text-of (front-text number (kind-as x) (action-as x)) ≡ text-of (front-text number (kind-as r) (action-as r))
 shown number e = ap (λ (y : RecordRead). text-of (front-text number (kind-as y) (action-as y))) e
 
-enum-known-read : tie.Need-enum-known-read
-enum-known-read c = search needs
-
-front-requires : tie.Need-front-requires
-front-requires c κs = search needs
-
-enum-known-read-2 : tie.Need-enum-known-read-2
-enum-known-read-2 c = search needs
-
-front-requires-2 : tie.Need-front-requires-2
-front-requires-2 c κs = search needs
-
-enum-known-read-3 : tie.Need-enum-known-read-3
-enum-known-read-3 c = search needs
-
-front-requires-3 : tie.Need-front-requires-3
-front-requires-3 c κs = search needs
-
-enum-told : tie.Need-enum-told
-enum-told c = search needs
-
-front-requires-4 : tie.Need-front-requires-4
-front-requires-4 c κs = search needs
-
-enum-told-2 : tie.Need-enum-told-2
-enum-told-2 c = search needs
-
-front-requires-5 : tie.Need-front-requires-5
-front-requires-5 c κs = search needs
-
 returns : tie.Need-returns
 unfolding kind-as action-as
 returns c = c .front .ensures ∙ shown (c .before .before .before .before .args .number) (sym (c .before .before .read .given .1))
@@ -67,16 +37,16 @@ pub front-of-spec : {M : Type 1} → statement M
 front-of-spec =
     tie.close
     (tie.spec
-    enum-known-read
-    front-requires
-    enum-known-read-2
-    front-requires-2
-    enum-known-read-3
-    front-requires-3
-    enum-told
-    front-requires-4
-    enum-told-2
-    front-requires-5
+    (λ c. search needs)
+    (λ c κs. search needs)
+    (λ c. search needs)
+    (λ c κs. search needs)
+    (λ c. search needs)
+    (λ c κs. search needs)
+    (λ c. search needs)
+    (λ c κs. search needs)
+    (λ c. search needs)
+    (λ c κs. search needs)
     returns
     returns-2
     returns-3

@@ -25,15 +25,6 @@ number c = c .before .before .before .before .before .before .args .number
 front-long : (c : tie.After-name-of) → c .before .front-of .result .len ≡ length (front-text (number c) (kind-as (read c)) (action-as (read c)))
 front-long c = text-size (c .before .front-of .result) _ (c .before .front-of .ensures)
 
-read-record-requires : tie.Need-read-record-requires
-read-record-requires c κs = search needs
-
-front-of-requires : tie.Need-front-of-requires
-front-of-requires c κs = search needs
-
-name-of-requires : tie.Need-name-of-requires
-name-of-requires c κs = search needs
-
 with-name-requires : tie.Need-with-name-requires
 with-name-requires c κs =
     let k = c .before .before in
@@ -61,9 +52,4 @@ returns c l =
 pub named-line-spec : {M : Type 1} → statement M
 named-line-spec =
     tie.close
-    (tie.spec
-    read-record-requires
-    front-of-requires
-    name-of-requires
-    with-name-requires
-    returns)
+    (tie.spec (λ c κs. search needs) (λ c κs. search needs) (λ c κs. search needs) with-name-requires returns)

@@ -40,9 +40,6 @@ listed c = c .before .before
 went : (k : tie.After-record) → k .«record» .result .more ≡ true → Took (S k) (count k) (bytes k) (k .«record» .result)
 went k h = took (S k) (count k) (bytes k) (k .«record» .result) (k .«record» .ensures) h
 
-record-requires : tie.Need-record-requires
-record-requires c κs = search needs
-
 named-line-requires : tie.Need-named-line-requires
 named-line-requires c κs = went (listed (c .before)) (c .if1 .taken) .line
 
@@ -76,4 +73,4 @@ returns-2 c =
 
 pub record-spec : {M : Type 1} → statement M
 record-spec =
-    tie.close (tie.spec record-requires named-line-requires returns unnamed-requires returns-2)
+    tie.close (tie.spec (λ c κs. search needs) named-line-requires returns unnamed-requires returns-2)

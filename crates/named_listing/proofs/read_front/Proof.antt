@@ -14,17 +14,8 @@ use Rattle.named_listing.proofs.read_front.Tie as tie
 front-counts : (r : ℕ) (xs ys : List ℕ) → r ≤ length xs → Counts r (xs ++ ys)
 front-counts r xs ys h = counts r (xs ++ ys) (omega (arith, length-append xs ys))
 
-slice-relend-prefix-read-full : tie.Need-slice-relend-prefix-read-full
-slice-relend-prefix-read-full c = search needs
-
 slice-aggregate-read-full : tie.Need-slice-aggregate-read-full
 slice-aggregate-read-full c = counts (c .before .before .args .size) (now (c .before .before .args .list)) (c .before .before .pre) .1
-
-read-full-requires : tie.Need-read-full-requires
-read-full-requires c κs = search needs
-
-same-length : tie.Need-same-length
-same-length c = search needs
 
 returns : tie.Need-returns
 returns c = let r = c .before .before .read-full in front-counts (r .result) (r .last .1 .0) _ (r .ensures .0)
@@ -32,9 +23,4 @@ returns c = let r = c .before .before .read-full in front-counts (r .result) (r 
 pub read-front-spec : {M : Type 1} → statement M
 read-front-spec =
     tie.close
-    (tie.spec
-    slice-relend-prefix-read-full
-    slice-aggregate-read-full
-    read-full-requires
-    same-length
-    returns)
+    (tie.spec (λ c. search needs) slice-aggregate-read-full (λ c κs. search needs) (λ c. search needs) returns)

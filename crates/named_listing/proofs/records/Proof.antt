@@ -18,21 +18,6 @@ abbrev μ-loop : tie.MeasureT-loop
 loop-holds : tie.Need-loop-holds Inv-loop μ-loop
 loop-holds c = tt
 
-slice-aggregate-read-full : tie.Need-slice-aggregate-read-full Inv-loop μ-loop
-slice-aggregate-read-full c = search needs
-
-read-full-requires : tie.Need-read-full-requires Inv-loop μ-loop
-read-full-requires c κs = search needs
-
-array-share-prefix-bytes : tie.Need-array-share-prefix-bytes Inv-loop μ-loop
-array-share-prefix-bytes c = search needs
-
-slice-aggregate-record : tie.Need-slice-aggregate-record Inv-loop μ-loop
-slice-aggregate-record c = search needs
-
-record-requires : tie.Need-record-requires Inv-loop μ-loop
-record-requires c κs = search needs
-
 shown-requires : tie.Need-shown-requires Inv-loop μ-loop
 shown-requires c κs = subst (λ (r : Named). r .text .len ≤ named-room) (sym (c .«record» .ensures)) (named-fits _ _ _ _ _)
 
@@ -58,11 +43,11 @@ records-spec =
     Inv-loop
     μ-loop
     loop-holds
-    slice-aggregate-read-full
-    read-full-requires
-    array-share-prefix-bytes
-    slice-aggregate-record
-    record-requires
+    (λ c. search needs)
+    (λ c κs. search needs)
+    (λ c. search needs)
+    (λ c. search needs)
+    (λ c κs. search needs)
     shown-requires
     returns
     sub-turns

@@ -10,12 +10,6 @@ slice-aggregate-write-front c = search needs
 write-front-requires : tie.Need-write-front-requires
 write-front-requires c κs = omega (arith, slice-aggregate-write-front c)
 
-returns : tie.Need-returns
-returns c = search needs
-
-returns-2 : tie.Need-returns-2
-returns-2 c = search needs
-
 pub shown-spec : {M : Type 1} → statement M
 shown-spec =
-    tie.close (tie.spec slice-aggregate-write-front write-front-requires returns returns-2)
+    tie.close (tie.spec slice-aggregate-write-front write-front-requires (λ c. search needs) (λ c. search needs))

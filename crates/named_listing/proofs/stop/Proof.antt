@@ -9,14 +9,8 @@ use borrow.Author.Needs.{needs}
 use Rattle.named_listing.proofs.stop.Statement.{statement}
 use Rattle.named_listing.proofs.stop.Tie as tie
 
-stop-requires : tie.Need-stop-requires
-stop-requires c κs = search needs
-
 write-requires : tie.Need-write-requires
 write-requires c κs = subst (λ (t : Text). t .len ≤ room) (sym (c .stop .ensures)) (text-len _ (stop-fits _ _))
 
-returns : tie.Need-returns
-returns c = search needs
-
 pub stop-spec : {M : Type 1} → statement M
-stop-spec = tie.close (tie.spec stop-requires write-requires returns)
+stop-spec = tie.close (tie.spec (λ c κs. search needs) write-requires (λ c. search needs))

@@ -4,14 +4,8 @@ use borrow.Author.Needs.{needs}
 use Rattle.named_text.proofs.put.Statement.{statement}
 use Rattle.named_text.proofs.put.Tie as tie
 
-element-write-r : tie.Need-element-write-r
-element-write-r c = search needs
-
-add-r : tie.Need-add-r
-add-r c = search needs
-
 returns : tie.Need-returns
 returns c = byte-behind (c .args .t) (c .args .b)
 
 pub put-spec : {M : Type 1} → statement M
-put-spec = tie.close (tie.spec element-write-r add-r returns)
+put-spec = tie.close (tie.spec (λ c. search needs) (λ c. search needs) returns)

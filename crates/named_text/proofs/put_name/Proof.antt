@@ -4,17 +4,11 @@ use borrow.Author.Needs.{needs}
 use Rattle.named_text.proofs.put_name.Statement.{statement}
 use Rattle.named_text.proofs.put_name.Tie as tie
 
-put-requires : tie.Need-put-requires
-put-requires c κs = search needs
-
 returns : tie.Need-returns
 returns c = renamed (unnamed-shown _ (c .before .if1 .taken)) (c .put .ensures)
-
-put-all-requires : tie.Need-put-all-requires
-put-all-requires c κs = search needs
 
 returns-2 : tie.Need-returns-2
 returns-2 c = renamed (named-shown _ (c .before .if1 .left)) (c .put-all .ensures)
 
 pub put-name-spec : {M : Type 1} → statement M
-put-name-spec = tie.close (tie.spec put-requires returns put-all-requires returns-2)
+put-name-spec = tie.close (tie.spec (λ c κs. search needs) returns (λ c κs. search needs) returns-2)

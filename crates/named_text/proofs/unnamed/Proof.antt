@@ -6,9 +6,6 @@ use borrow.Author.Needs.{needs}
 use Rattle.named_text.proofs.unnamed.Statement.{statement}
 use Rattle.named_text.proofs.unnamed.Tie as tie
 
-nothing-requires : tie.Need-nothing-requires
-nothing-requires c κs = search needs
-
 slice-aggregate-put-part : tie.Need-slice-aggregate-put-part
 slice-aggregate-put-part c = search needs
 
@@ -22,4 +19,4 @@ returns c =
 
 pub unnamed-spec : {M : Type 1} → statement M
 unnamed-spec =
-    tie.close (tie.spec nothing-requires slice-aggregate-put-part put-part-requires returns)
+    tie.close (tie.spec (λ c κs. search needs) slice-aggregate-put-part put-part-requires returns)

@@ -15,9 +15,6 @@ fronted c =
     let bytes = c .before .before .before .before .before .args .line .bytes in
     omega (arith, c .put-part .ensures .longer, c .before .before .nothing .ensures .1, length-take (at - 0) bytes)
 
-nothing-requires : tie.Need-nothing-requires
-nothing-requires c κs = search needs
-
 slice-aggregate-put-part : tie.Need-slice-aggregate-put-part
 slice-aggregate-put-part c = search needs
 
@@ -65,7 +62,7 @@ pub with-name-spec : {M : Type 1} → statement M
 with-name-spec =
     tie.close
     (tie.spec
-    nothing-requires
+    (λ c κs. search needs)
     slice-aggregate-put-part
     put-part-requires
     put-requires

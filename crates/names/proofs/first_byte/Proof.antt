@@ -7,9 +7,6 @@ use borrow.Author.Needs.{needs}
 use Rattle.names.proofs.first_byte.Statement.{statement}
 use Rattle.names.proofs.first_byte.Tie as tie
 
-add-result : tie.Need-add-result
-add-result c = search needs
-
 returns : tie.Need-returns
 returns c = sym (ap (λ (t : Bool). first-byte (wanted t (c .before .args .action))) (c .if1 .taken))
 
@@ -17,4 +14,4 @@ returns-2 : tie.Need-returns-2
 returns-2 c = sym (ap (λ (t : Bool). first-byte (wanted t (c .before .args .action))) (c .if1 .left))
 
 pub first-byte-spec : {M : Type 1} → statement M
-first-byte-spec = tie.close (tie.spec add-result returns returns-2)
+first-byte-spec = tie.close (tie.spec (λ c. search needs) returns returns-2)

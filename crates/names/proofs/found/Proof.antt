@@ -6,14 +6,8 @@ use borrow.Author.Needs.{needs}
 use Rattle.names.proofs.found.Statement.{statement}
 use Rattle.names.proofs.found.Tie as tie
 
-lookup-requires : tie.Need-lookup-requires
-lookup-requires c κs = search needs
-
 returns : tie.Need-returns
 returns c = handed-own _ _ _ _ _ (c .if1 .taken) (c .before .lookup .ensures)
-
-lookup-requires-2 : tie.Need-lookup-requires-2
-lookup-requires-2 c κs = search needs
 
 returns-2 : tie.Need-returns-2
 returns-2 c =
@@ -22,4 +16,4 @@ returns-2 c =
     handed-other _ _ _ _ (k .lookup .result) _ (name-inside (now (start .args .site)) (start .args .first) (start .pre .0)) (k .lookup .ensures) (c .before .if1 .left) (c .lookup2 .ensures)
 
 pub found-spec : {M : Type 1} → statement M
-found-spec = tie.close (tie.spec lookup-requires returns lookup-requires-2 returns-2)
+found-spec = tie.close (tie.spec (λ c κs. search needs) returns (λ c κs. search needs) returns-2)

@@ -44,32 +44,11 @@ loop-holds c = (omega arith, left-all _ _ (c .before .pre))
 add-start : tie.Need-add-start Inv-loop μ-loop
 add-start c = record { fits = omega (arith, inside c, short c) }
 
-add-number : tie.Need-add-number Inv-loop μ-loop
-add-number c = search needs
-
 shared-slice-read-number : tie.Need-shared-slice-read-number Inv-loop μ-loop
 shared-slice-read-number c = omega (arith, inside (c .before))
 
-number-requires : tie.Need-number-requires Inv-loop μ-loop
-number-requires c κs = search needs
-
-add-end : tie.Need-add-end Inv-loop μ-loop
-add-end c = search needs
-
-shared-slice-read-number-2 : tie.Need-shared-slice-read-number-2 Inv-loop μ-loop
-shared-slice-read-number-2 c = search needs
-
-number-requires-2 : tie.Need-number-requires-2 Inv-loop μ-loop
-number-requires-2 c κs = search needs
-
-number-requires-3 : tie.Need-number-requires-3 Inv-loop μ-loop
-number-requires-3 c κs = search needs
-
 sub-result : tie.Need-sub-result Inv-loop μ-loop
 sub-result c = omega arith
-
-part-result-start : tie.Need-part-result-start Inv-loop μ-loop
-part-result-start c = search needs
 
 part-result-end : tie.Need-part-result-end Inv-loop μ-loop
 part-result-end c = omega (arith, inside (turn (c .before)), c .before .before .before .before .number .ensures .0)
@@ -98,15 +77,6 @@ loop-again c =
           (left-on (L k) (wanted k) (at k) (k .before .loop .inv .1) (k .loop-test .taken) (b .1) (λ e. c .if1 .left (b .0 ∙ e ∙ sym (c .before .number3 .ensures .0)))),
     )
 
-sub-result-2 : tie.Need-sub-result-2 Inv-loop μ-loop
-sub-result-2 c = search needs
-
-part-result-start-2 : tie.Need-part-result-start-2 Inv-loop μ-loop
-part-result-start-2 c = search needs
-
-part-result-end-2 : tie.Need-part-result-end-2 Inv-loop μ-loop
-part-result-end-2 c = search needs
-
 returns-2 : tie.Need-returns-2 Inv-loop μ-loop
 returns-2 c =
     let l = c .before .before .loop in
@@ -123,20 +93,20 @@ lookup-spec =
     μ-loop
     loop-holds
     add-start
-    add-number
+    (λ c. search needs)
     shared-slice-read-number
-    number-requires
-    add-end
-    shared-slice-read-number-2
-    number-requires-2
-    number-requires-3
+    (λ c κs. search needs)
+    (λ c. search needs)
+    (λ c. search needs)
+    (λ c κs. search needs)
+    (λ c κs. search needs)
     sub-result
-    part-result-start
+    (λ c. search needs)
     part-result-end
     returns
     loop-less
     loop-again
-    sub-result-2
-    part-result-start-2
-    part-result-end-2
+    (λ c. search needs)
+    (λ c. search needs)
+    (λ c. search needs)
     returns-2)

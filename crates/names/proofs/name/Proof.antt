@@ -16,18 +16,6 @@ none c = sym (c .before .refused .ensures) ∙ c .if1 .left
 good : (c : tie.Else1) → Taken (now (c .before .before .before .before .args .site)) (now (c .before .before .before .before .args .release)) (c .before .before .before .before .args .action)
 good c = taken _ _ _ (none c)
 
-refused-requires : tie.Need-refused-requires
-refused-requires c κs = search needs
-
-sub-result : tie.Need-sub-result
-sub-result c = search needs
-
-part-result-start : tie.Need-part-result-start
-part-result-start c = search needs
-
-part-result-end : tie.Need-part-result-end
-part-result-end c = search needs
-
 returns : tie.Need-returns
 returns c =
     let k = c .before .before in
@@ -52,12 +40,4 @@ returns-2 c =
 pub name-spec : {M : Type 1} → statement M
 name-spec =
     tie.close
-    (tie.spec
-    refused-requires
-    sub-result
-    part-result-start
-    part-result-end
-    returns
-    first-byte-requires
-    found-requires
-    returns-2)
+    (tie.spec (λ c κs. search needs) (λ c. search needs) (λ c. search needs) (λ c. search needs) returns first-byte-requires found-requires returns-2)

@@ -10,14 +10,8 @@ use Rattle.names.proofs.refused.Tie as tie
 returns : tie.Need-returns
 returns c = number-3 _ _ _ (lt-ltb 63 _ (c .if1 .taken))
 
-broken-requires : tie.Need-broken-requires
-broken-requires c κs = search needs
-
 returns-2 : tie.Need-returns-2
 returns-2 c = number-11 _ _ _ (le-ltb 63 _ (c .before .before .if1 .left)) (sym (c .before .broken .ensures) ∙ c .if2 .taken)
-
-broken-requires-2 : tie.Need-broken-requires-2
-broken-requires-2 c κs = search needs
 
 returns-3 : tie.Need-returns-3
 returns-3 c =
@@ -35,4 +29,4 @@ returns-4 c =
 
 pub refused-spec : {M : Type 1} → statement M
 refused-spec =
-    tie.close (tie.spec returns broken-requires returns-2 broken-requires-2 returns-3 returns-4)
+    tie.close (tie.spec returns (λ c κs. search needs) returns-2 (λ c κs. search needs) returns-3 returns-4)

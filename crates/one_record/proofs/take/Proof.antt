@@ -31,50 +31,11 @@ stays : (b : tie.Start) {r t : Reply} → r ≡ t → Takes (entry b) (case-as (
     → Takes (entry b) (case-as (b .args .read)) (r .answer) (as-lent b (r .status))
 stays b e h = subst (λ (x : Reply). Takes (entry b) (case-as (b .args .read)) (x .answer) (as-lent b (x .status))) (sym e) h
 
-enum-known-read : tie.Need-enum-known-read
-enum-known-read c = search needs
-
-line-requires : tie.Need-line-requires
-line-requires c κs = search needs
-
-enum-known-read-2 : tie.Need-enum-known-read-2
-enum-known-read-2 c = search needs
-
-line-requires-2 : tie.Need-line-requires-2
-line-requires-2 c κs = search needs
-
-enum-known-read-3 : tie.Need-enum-known-read-3
-enum-known-read-3 c = search needs
-
-mark-requires : tie.Need-mark-requires
-mark-requires c κs = search needs
-
-enum-told : tie.Need-enum-told
-enum-told c = search needs
-
-unmoved-requires : tie.Need-unmoved-requires
-unmoved-requires c κs = search needs
-
-enum-known-read-4 : tie.Need-enum-known-read-4
-enum-known-read-4 c = search needs
-
-unmoved-requires-2 : tie.Need-unmoved-requires-2
-unmoved-requires-2 c κs = search needs
-
-same-length : tie.Need-same-length
-same-length c = search needs
-
 returns : tie.Need-returns
 returns c = let arg = c .before .before in case-known (arg .before .before .read .given .1) (call-takes (c .before .line .ensures))
 
-same-length-2 : tie.Need-same-length-2
-same-length-2 c = search needs
-
 returns-2 : tie.Need-returns-2
 returns-2 c = let arg = c .before .before in case-known (arg .before .before .read2 .given .1) (call-takes (c .before .line2 .ensures))
-
-same-length-3 : tie.Need-same-length-3
-same-length-3 c = search needs
 
 returns-3 : tie.Need-returns-3
 returns-3 c = let arg = c .before in case-known (arg .before .before .read3 .given .1) (call-takes (c .mark .ensures))
@@ -95,21 +56,21 @@ pub take-spec : {M : Type 1} → statement M
 take-spec =
     tie.close
     (tie.spec
-    enum-known-read
-    line-requires
-    enum-known-read-2
-    line-requires-2
-    enum-known-read-3
-    mark-requires
-    enum-told
-    unmoved-requires
-    enum-known-read-4
-    unmoved-requires-2
-    same-length
+    (λ c. search needs)
+    (λ c κs. search needs)
+    (λ c. search needs)
+    (λ c κs. search needs)
+    (λ c. search needs)
+    (λ c κs. search needs)
+    (λ c. search needs)
+    (λ c κs. search needs)
+    (λ c. search needs)
+    (λ c κs. search needs)
+    (λ c. search needs)
     returns
-    same-length-2
+    (λ c. search needs)
     returns-2
-    same-length-3
+    (λ c. search needs)
     returns-3
     returns-4
     returns-5)

@@ -10,27 +10,6 @@ use Rattle.open_run.proofs.comes_to.Tie as tie
 returns : tie.Need-returns
 returns c = sym (unless-kept _ _ _ (c .if1 .taken))
 
-enum-known-read : tie.Need-enum-known-read
-enum-known-read c = search needs
-
-line-requires : tie.Need-line-requires
-line-requires c κs = search needs
-
-enum-known-read-2 : tie.Need-enum-known-read-2
-enum-known-read-2 c = search needs
-
-line-requires-2 : tie.Need-line-requires-2
-line-requires-2 c κs = search needs
-
-enum-told : tie.Need-enum-told
-enum-told c = search needs
-
-enum-told-2 : tie.Need-enum-told-2
-enum-told-2 c = search needs
-
-enum-known-read-3 : tie.Need-enum-known-read-3
-enum-known-read-3 c = search needs
-
 returns-2 : tie.Need-returns-2
 returns-2 c = let arm = c .before .before in kind-known (kind-outcome _ _) _ (arm .before .before .if1 .left) (arm .read .given .1) (c .line .ensures)
 
@@ -51,13 +30,13 @@ comes-to-spec =
     tie.close
     (tie.spec
     returns
-    enum-known-read
-    line-requires
-    enum-known-read-2
-    line-requires-2
-    enum-told
-    enum-told-2
-    enum-known-read-3
+    (λ c. search needs)
+    (λ c κs. search needs)
+    (λ c. search needs)
+    (λ c κs. search needs)
+    (λ c. search needs)
+    (λ c. search needs)
+    (λ c. search needs)
     returns-2
     returns-3
     returns-4

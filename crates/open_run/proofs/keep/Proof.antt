@@ -7,28 +7,10 @@ use Rattle.open_run.proofs.keep.Tie as tie
 returns : tie.Need-returns
 returns c = λ run h. keeps-past run _ _ (c .if1 .taken) h
 
-element-write-outputs : tie.Need-element-write-outputs
-element-write-outputs c = search needs
-
-element-write-actions : tie.Need-element-write-actions
-element-write-actions c = search needs
-
-mul-stamps : tie.Need-mul-stamps
-mul-stamps c = search needs
-
-element-write-stamps : tie.Need-element-write-stamps
-element-write-stamps c = search needs
-
 returns-2 : tie.Need-returns-2
 returns-2 c = λ run h. keeps-more run _ _ _ _ (c .if1 .left) h
 
 pub keep-spec : {M : Type 1} → statement M
 keep-spec =
     tie.close
-    (tie.spec
-    returns
-    element-write-outputs
-    element-write-actions
-    mul-stamps
-    element-write-stamps
-    returns-2)
+    (tie.spec returns (λ c. search needs) (λ c. search needs) (λ c. search needs) (λ c. search needs) returns-2)

@@ -40,38 +40,14 @@ leads k e =
     subst (Leads (start k) (lines k) (case-as (entry k .args .read)) (after k)) (sym (k .comes-to .ensures) ∙ e)
     (read-leads (start k) (entry k .pre .0) (took k .take .result .answer) (after k) (lines k) (entry k .args .read) (took k .take .ensures))
 
-take-requires : tie.Need-take-requires
-take-requires c κs = search needs
-
-comes-to-requires : tie.Need-comes-to-requires
-comes-to-requires c κs = search needs
-
-enum-known-came : tie.Need-enum-known-came
-enum-known-came c = search needs
-
-keep-requires : tie.Need-keep-requires
-keep-requires c κs = search needs
-
-add-longer : tie.Need-add-longer
-add-longer c = search needs
-
-enum-known-came-2 : tie.Need-enum-known-came-2
-enum-known-came-2 c = search needs
-
 -- from the line kept back to the arm
 abbrev lent : tie.After-keep → tie.After-keep-arg
 lent c = let last = c .before in last .before .before
-
-same-length : tie.Need-same-length
-same-length c = search needs
 
 returns : tie.Need-returns
 returns c =
     let arm = lent c .before .before in
     leads (arm .before .before) (arm .came .given .1) _ (c .keep .ensures) refl
-
-same-length-2 : tie.Need-same-length-2
-same-length-2 c = search needs
 
 returns-2 : tie.Need-returns-2
 returns-2 c = let arm = c .before in leads (arm .before .before) (arm .came2 .given .1)
@@ -80,13 +56,13 @@ pub take-spec : {M : Type 1} → statement M
 take-spec =
     tie.close
     (tie.spec
-    take-requires
-    comes-to-requires
-    enum-known-came
-    keep-requires
-    add-longer
-    enum-known-came-2
-    same-length
+    (λ c κs. search needs)
+    (λ c κs. search needs)
+    (λ c. search needs)
+    (λ c κs. search needs)
+    (λ c. search needs)
+    (λ c. search needs)
+    (λ c. search needs)
     returns
-    same-length-2
+    (λ c. search needs)
     returns-2)

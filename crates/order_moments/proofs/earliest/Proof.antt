@@ -57,9 +57,6 @@ shared-slice-read-low-2 c =
 low-requires : tie.Need-low-requires Inv-loop μ-loop
 low-requires c κs = let i = c .before .before .before in (entry i .pre .0 .0, entry i .pre .0 .2 _)
 
-later-requires : tie.Need-later-requires Inv-loop μ-loop
-later-requires c κs = search needs
-
 moment-requires : tie.Need-moment-requires Inv-loop μ-loop
 moment-requires c κs =
     let i = c .before .before .before .before .before in
@@ -118,7 +115,7 @@ earliest-spec =
     mul-low
     shared-slice-read-low-2
     low-requires
-    later-requires
+    (λ c κs. search needs)
     moment-requires
     mul-t9
     slice-set-from-moments

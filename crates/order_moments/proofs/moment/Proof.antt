@@ -4,12 +4,6 @@ use Rattle.order_moments.proofs.Moments.{moment-fits, moment-is}
 use Rattle.order_moments.proofs.moment.Statement.{statement}
 use Rattle.order_moments.proofs.moment.Tie as tie
 
-cast-result : tie.Need-cast-result
-cast-result c = search needs
-
-cast-result-2 : tie.Need-cast-result-2
-cast-result-2 c = search needs
-
 sub-result : tie.Need-sub-result
 sub-result c = moment-fits (c .args .m) (c .args .ub) (c .pre .0) (c .pre .1)
 
@@ -17,4 +11,4 @@ returns : tie.Need-returns
 returns c = moment-is (c .args .m) (c .args .ub) (c .pre .0) (c .pre .1)
 
 pub moment-spec : {M : Type 1} → statement M
-moment-spec = tie.close (tie.spec cast-result cast-result-2 sub-result returns)
+moment-spec = tie.close (tie.spec (λ c. search needs) (λ c. search needs) sub-result returns)

@@ -31,23 +31,8 @@ Inv-loop property trace budget times s taken₀ i₀ taken i = (i ≤ times) × 
 abbrev μ-loop : tie.MeasureT-loop
 μ-loop property trace budget times s taken₀ i₀ taken i = times - i
 
-read-property-requires : tie.Need-read-property-requires Inv-loop μ-loop
-read-property-requires c κs = search needs
-
-fresh-requires : tie.Need-fresh-requires Inv-loop μ-loop
-fresh-requires c κs = search needs
-
 loop-holds : tie.Need-loop-holds Inv-loop μ-loop
 loop-holds c = (omega arith, none-taken _ _ _)
-
-walk-requires : tie.Need-walk-requires Inv-loop μ-loop
-walk-requires c κs = search needs
-
-add-i : tie.Need-add-i Inv-loop μ-loop
-add-i c = search needs
-
-loop-less : tie.Need-loop-less Inv-loop μ-loop
-loop-less c = search needs
 
 loop-again : tie.Need-loop-again Inv-loop μ-loop
 loop-again c = (omega arith, one-taken _ _ _ _ (c .walk .result) (c .walk .ensures))
@@ -70,11 +55,11 @@ anthegyra-pace-walk-spec =
     (tie.spec
     Inv-loop
     μ-loop
-    read-property-requires
-    fresh-requires
+    (λ c κs. search needs)
+    (λ c κs. search needs)
     loop-holds
-    walk-requires
-    add-i
-    loop-less
+    (λ c κs. search needs)
+    (λ c. search needs)
+    (λ c. search needs)
     loop-again
     returns)

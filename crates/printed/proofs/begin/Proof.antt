@@ -9,15 +9,6 @@ use borrow.Author.Needs.{needs}
 use Rattle.printed.proofs.begin.Statement.{statement}
 use Rattle.printed.proofs.begin.Tie as tie
 
-read-property-requires : tie.Need-read-property-requires
-read-property-requires c κs = search needs
-
-fresh-requires : tie.Need-fresh-requires
-fresh-requires c κs = search needs
-
-opening-requires : tie.Need-opening-requires
-opening-requires c κs = search needs
-
 returns : tie.Need-returns
 unfolding begun-of
 returns c =
@@ -27,4 +18,4 @@ returns c =
     λ i. record { text = text i; session = fresh i .session; count = 0; more = eqb (e i .refusal) 0 }
 
 pub begin-spec : {M : Type 1} → statement M
-begin-spec = tie.close (tie.spec read-property-requires fresh-requires opening-requires returns)
+begin-spec = tie.close (tie.spec (λ c κs. search needs) (λ c κs. search needs) (λ c κs. search needs) returns)

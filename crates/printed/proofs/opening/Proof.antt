@@ -5,17 +5,11 @@ use borrow.Author.Needs.{needs}
 use Rattle.printed.proofs.opening.Statement.{statement}
 use Rattle.printed.proofs.opening.Tie as tie
 
-nothing-requires : tie.Need-nothing-requires
-nothing-requires c κs = search needs
-
 returns : tie.Need-returns
 returns c = c .nothing .ensures ∙ none-opens _ (c .before .if1 .taken)
-
-stop-requires : tie.Need-stop-requires
-stop-requires c κs = search needs
 
 returns-2 : tie.Need-returns-2
 returns-2 c = c .stop .ensures ∙ stop-opens _ (c .before .if1 .left)
 
 pub opening-spec : {M : Type 1} → statement M
-opening-spec = tie.close (tie.spec nothing-requires returns stop-requires returns-2)
+opening-spec = tie.close (tie.spec (λ c κs. search needs) returns (λ c κs. search needs) returns-2)

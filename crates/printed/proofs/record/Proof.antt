@@ -65,12 +65,6 @@ adds k =
     (subst (λ (x : List (List ℕ)). Adds (memory (s .property) x (s .shared .status)) (count e) (case-as (reading k .read-record .result)) (k .«record» .result) (after k))
     (rows k .rows-of .ensures .0) (k .«record» .ensures))
 
-unfit-requires : tie.Need-unfit-requires
-unfit-requires c κs = search needs
-
-stop-requires : tie.Need-stop-requires
-stop-requires c κs = search needs
-
 returns : tie.Need-returns
 returns c =
     let t = c .before in
@@ -81,24 +75,12 @@ returns c =
 table-requires : tie.Need-table-requires
 table-requires c κs = let e = sharing c in ranged (given e) (fit e) .formed
 
-rows-of-requires : tie.Need-rows-of-requires
-rows-of-requires c κs = search needs
-
-read-record-requires : tie.Need-read-record-requires
-read-record-requires c κs = search needs
-
-slice-aggregate-record : tie.Need-slice-aggregate-record
-slice-aggregate-record c = search needs
-
 record-requires : tie.Need-record-requires
 record-requires c κs =
     let lending = c .before in
     let k = lending .before .before in
     let e = passed k in
     (lent-ready (given e) (fit e) (k .rows-of .result) (k .rows-of .ensures .0) (k .rows-of .ensures .2), k .before .table .ensures)
-
-slice-aggregate-made : tie.Need-slice-aggregate-made
-slice-aggregate-made c = search needs
 
 made-requires : tie.Need-made-requires
 made-requires c κs = adds (added (c .before .before)) .ready
@@ -122,15 +104,15 @@ pub record-spec : {M : Type 1} → statement M
 record-spec =
     tie.close
     (tie.spec
-    unfit-requires
-    stop-requires
+    (λ c κs. search needs)
+    (λ c κs. search needs)
     returns
     table-requires
-    rows-of-requires
-    read-record-requires
-    slice-aggregate-record
+    (λ c κs. search needs)
+    (λ c κs. search needs)
+    (λ c. search needs)
     record-requires
-    slice-aggregate-made
+    (λ c. search needs)
     made-requires
     returns-2
     returns-3)

@@ -18,12 +18,6 @@ in-first : (first : ℕ) (rest : List ℕ) → length-read (first ∷ []) ≡ le
 unfolding number bit
 in-first first rest = refl
 
-slice-aggregate-field-at : tie.Need-slice-aggregate-field-at
-slice-aggregate-field-at c = search needs
-
-field-at-requires : tie.Need-field-at-requires
-field-at-requires c κs = search needs
-
 mul-result : tie.Need-mul-result
 mul-result c = omega (arith, c .field-at .ensures, small (c .before .before .args .first))
 
@@ -44,10 +38,4 @@ returns c =
 pub size-spec : {M : Type 1} → statement M
 size-spec =
     tie.close
-    (tie.spec
-    slice-aggregate-field-at
-    field-at-requires
-    mul-result
-    add-result
-    add-result-2
-    returns)
+    (tie.spec (λ c. search needs) (λ c κs. search needs) mul-result add-result add-result-2 returns)

@@ -6,21 +6,6 @@ use borrow.Author.Needs.{needs}
 use Rattle.printout.proofs.end.Statement.{statement}
 use Rattle.printout.proofs.end.Tie as tie
 
-empty-requires : tie.Need-empty-requires
-empty-requires c κs = search needs
-
-slice-aggregate-put-word : tie.Need-slice-aggregate-put-word
-slice-aggregate-put-word c = search needs
-
-put-word-requires : tie.Need-put-word-requires
-put-word-requires c κs = search needs
-
-put-number-requires : tie.Need-put-number-requires
-put-number-requires c κs = search needs
-
-put-requires : tie.Need-put-requires
-put-requires c κs = search needs
-
 returns : tie.Need-returns
 unfolding end-text
 returns c = whole (c .before .before .before .before .empty .ensures .0) (then (then (c .before .before .put-word .ensures) (c .before .put-number .ensures)) (c .put .ensures)) (lit≤ tt)
@@ -28,10 +13,4 @@ returns c = whole (c .before .before .before .before .empty .ensures .0) (then (
 pub end-spec : {M : Type 1} → statement M
 end-spec =
     tie.close
-    (tie.spec
-    empty-requires
-    slice-aggregate-put-word
-    put-word-requires
-    put-number-requires
-    put-requires
-    returns)
+    (tie.spec (λ c κs. search needs) (λ c. search needs) (λ c κs. search needs) (λ c κs. search needs) (λ c κs. search needs) returns)

@@ -20,27 +20,6 @@ unfolding front-text
 joined number kind action l a is-letter is-action =
     rw (is-letter, is-action) (regrouped (decimal number) (space ∷ []) (letter kind ∷ []) (decimal action))
 
-empty-requires : tie.Need-empty-requires
-empty-requires c κs = search needs
-
-put-field-requires : tie.Need-put-field-requires
-put-field-requires c κs = search needs
-
-letter-of-requires : tie.Need-letter-of-requires
-letter-of-requires c κs = search needs
-
-put-requires : tie.Need-put-requires
-put-requires c κs = search needs
-
-put-requires-2 : tie.Need-put-requires-2
-put-requires-2 c κs = search needs
-
-wide-requires : tie.Need-wide-requires
-wide-requires c κs = search needs
-
-put-number-requires : tie.Need-put-number-requires
-put-number-requires c κs = search needs
-
 returns : tie.Need-returns
 returns c =
     let kind = c .before .before in
@@ -54,11 +33,11 @@ pub front-spec : {M : Type 1} → statement M
 front-spec =
     tie.close
     (tie.spec
-    empty-requires
-    put-field-requires
-    letter-of-requires
-    put-requires
-    put-requires-2
-    wide-requires
-    put-number-requires
+    (λ c κs. search needs)
+    (λ c κs. search needs)
+    (λ c κs. search needs)
+    (λ c κs. search needs)
+    (λ c κs. search needs)
+    (λ c κs. search needs)
+    (λ c κs. search needs)
     returns)

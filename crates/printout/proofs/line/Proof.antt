@@ -35,39 +35,6 @@ joined number kind action stamp verdict open-count l a is-letter is-action =
     (regrouped (decimal number) (space ∷ []) (letter kind ∷ []) (decimal action) (decimal stamp) (word verdict)
     (decimal open-count) (newline ∷ []))
 
-empty-requires : tie.Need-empty-requires
-empty-requires c κs = search needs
-
-put-field-requires : tie.Need-put-field-requires
-put-field-requires c κs = search needs
-
-letter-of-requires : tie.Need-letter-of-requires
-letter-of-requires c κs = search needs
-
-put-requires : tie.Need-put-requires
-put-requires c κs = search needs
-
-put-requires-2 : tie.Need-put-requires-2
-put-requires-2 c κs = search needs
-
-wide-requires : tie.Need-wide-requires
-wide-requires c κs = search needs
-
-put-field-requires-2 : tie.Need-put-field-requires-2
-put-field-requires-2 c κs = search needs
-
-put-field-requires-3 : tie.Need-put-field-requires-3
-put-field-requires-3 c κs = search needs
-
-put-verdict-requires : tie.Need-put-verdict-requires
-put-verdict-requires c κs = search needs
-
-put-requires-3 : tie.Need-put-requires-3
-put-requires-3 c κs = search needs
-
-put-number-requires : tie.Need-put-number-requires
-put-number-requires c κs = search needs
-
 put-requires-4 : tie.Need-put-requires-4
 put-requires-4 c κs =
     let verdict = c .before in
@@ -105,16 +72,16 @@ pub line-spec : {M : Type 1} → statement M
 line-spec =
     tie.close
     (tie.spec
-    empty-requires
-    put-field-requires
-    letter-of-requires
-    put-requires
-    put-requires-2
-    wide-requires
-    put-field-requires-2
-    put-field-requires-3
-    put-verdict-requires
-    put-requires-3
-    put-number-requires
+    (λ c κs. search needs)
+    (λ c κs. search needs)
+    (λ c κs. search needs)
+    (λ c κs. search needs)
+    (λ c κs. search needs)
+    (λ c κs. search needs)
+    (λ c κs. search needs)
+    (λ c κs. search needs)
+    (λ c κs. search needs)
+    (λ c κs. search needs)
+    (λ c κs. search needs)
     put-requires-4
     returns)

@@ -15,30 +15,6 @@ other (suc zero) not-0 not-1 not-2 = absurd (not-1 refl)
 other (suc (suc zero)) not-0 not-1 not-2 = absurd (not-2 refl)
 other (suc (suc (suc verdict))) not-0 not-1 not-2 = refl
 
-slice-aggregate-put-word : tie.Need-slice-aggregate-put-word
-slice-aggregate-put-word c = search needs
-
-put-word-requires : tie.Need-put-word-requires
-put-word-requires c κs = search needs
-
-slice-aggregate-put-word-2 : tie.Need-slice-aggregate-put-word-2
-slice-aggregate-put-word-2 c = search needs
-
-put-word-requires-2 : tie.Need-put-word-requires-2
-put-word-requires-2 c κs = search needs
-
-slice-aggregate-put-word-3 : tie.Need-slice-aggregate-put-word-3
-slice-aggregate-put-word-3 c = search needs
-
-put-word-requires-3 : tie.Need-put-word-requires-3
-put-word-requires-3 c κs = search needs
-
-slice-aggregate-put-word-4 : tie.Need-slice-aggregate-put-word-4
-slice-aggregate-put-word-4 c = search needs
-
-put-word-requires-4 : tie.Need-put-word-requires-4
-put-word-requires-4 c κs = search needs
-
 returns : tie.Need-returns
 unfolding word
 returns c = wider (lit≤ tt) (renamed (ap word (sym (c .before .before .match .keys1))) (c .put-word .ensures))
@@ -59,14 +35,14 @@ pub put-verdict-spec : {M : Type 1} → statement M
 put-verdict-spec =
     tie.close
     (tie.spec
-    slice-aggregate-put-word
-    put-word-requires
-    slice-aggregate-put-word-2
-    put-word-requires-2
-    slice-aggregate-put-word-3
-    put-word-requires-3
-    slice-aggregate-put-word-4
-    put-word-requires-4
+    (λ c. search needs)
+    (λ c κs. search needs)
+    (λ c. search needs)
+    (λ c κs. search needs)
+    (λ c. search needs)
+    (λ c κs. search needs)
+    (λ c. search needs)
+    (λ c κs. search needs)
     returns
     returns-2
     returns-3

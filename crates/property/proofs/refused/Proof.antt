@@ -40,9 +40,6 @@ returns-5 c =
       lt-ltb 60_000_000 (p .ub) (omega arith),
     ))
 
-above-requires : tie.Need-above-requires
-above-requires c κs = search needs
-
 returns-6 : tie.Need-returns-6
 returns-6 c =
     let p = c .before .before .before .before .before .before .before .before .before .before .before .before .args .p in
@@ -76,4 +73,4 @@ returns-7 c =
 pub refused-spec : {M : Type 1} → statement M
 refused-spec =
     tie.close
-    (tie.spec returns returns-2 returns-3 returns-4 returns-5 above-requires returns-6 returns-7)
+    (tie.spec returns returns-2 returns-3 returns-4 returns-5 (λ c κs. search needs) returns-6 returns-7)

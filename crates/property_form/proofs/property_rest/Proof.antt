@@ -7,21 +7,15 @@ use Rattle.property_form.proofs.Answers.{taken-le}
 use Rattle.property_form.proofs.property_rest.Statement.{statement}
 use Rattle.property_form.proofs.property_rest.Tie as tie
 
-taken-by-requires : tie.Need-taken-by-requires
-taken-by-requires c κs = search needs
-
 sub-result : tie.Need-sub-result
 sub-result c = omega (arith, taken-le (c .before .before .args .s .now), c .taken-by .ensures)
 
 part-result-start : tie.Need-part-result-start
 part-result-start c = omega (arith, taken-le (c .before .before .args .s .now), c .taken-by .ensures)
 
-part-result-end : tie.Need-part-result-end
-part-result-end c = search needs
-
 returns : tie.Need-returns
 returns c = rest-part (c .before .taken-by .result) _ _ _ (sym (c .before .taken-by .ensures)) refl (omega arith) refl
 
 pub property-rest-spec : {M : Type 1} → statement M
 property-rest-spec =
-    tie.close (tie.spec taken-by-requires sub-result part-result-start part-result-end returns)
+    tie.close (tie.spec (λ c κs. search needs) sub-result part-result-start (λ c. search needs) returns)

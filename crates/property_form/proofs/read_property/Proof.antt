@@ -35,12 +35,6 @@ judged c =
     ∙ ap (λ p. property-refusal (meant p)) (c .before .fields-of .ensures)
     ∙ sym (of-property (c .before .before .before .before))
 
-broken-requires : tie.Need-broken-requires
-broken-requires c κs = search needs
-
-none-requires : tie.Need-none-requires
-none-requires c κs = search needs
-
 returns : tie.Need-returns
 returns c =
     let s = c .before .before .before .before .args .s .now in
@@ -52,9 +46,6 @@ returns c =
 
 length-of-requires : tie.Need-length-of-requires
 length-of-requires c κs = omega (arith, whole (S c) (unbroken c))
-
-none-requires-2 : tie.Need-none-requires-2
-none-requires-2 c κs = search needs
 
 returns-2 : tie.Need-returns-2
 unfolding property-read
@@ -69,12 +60,6 @@ fields-of-requires c κs =
     let e = c .before .before in
     (c .before .length-of .ensures .0, omega arith, omega (arith, whole (S e) (unbroken e)))
 
-refused-requires : tie.Need-refused-requires
-refused-requires c κs = search needs
-
-none-requires-3 : tie.Need-none-requires-3
-none-requires-3 c κs = search needs
-
 returns-3 : tie.Need-returns-3
 returns-3 c = read-refused _ _ (c .none3 .result) (judged (c .before .before)) (c .before .if3 .taken) (c .none3 .ensures)
 
@@ -87,14 +72,14 @@ pub read-property-spec : {M : Type 1} → statement M
 read-property-spec =
     tie.close
     (tie.spec
-    broken-requires
-    none-requires
+    (λ c κs. search needs)
+    (λ c κs. search needs)
     returns
     length-of-requires
-    none-requires-2
+    (λ c κs. search needs)
     returns-2
     fields-of-requires
-    refused-requires
-    none-requires-3
+    (λ c κs. search needs)
+    (λ c κs. search needs)
     returns-3
     returns-4)

@@ -20,17 +20,11 @@ S c = c .before .before .before .before .args .s .now
 unrefused : (c : tie.Else1) → read-refusal (S c) ≡ 0
 unrefused c = sym (refusal-is (c .before .before)) ∙ c .if1 .left
 
-read-property-requires : tie.Need-read-property-requires
-read-property-requires c κs = search needs
-
 returns : tie.Need-returns
 returns c = taken-none _ (λ e. c .if1 .taken (refusal-is (c .before .before) ∙ e))
 
 length-of-requires : tie.Need-length-of-requires
 length-of-requires c κs = omega (arith, whole (S c) (not-broken (S c) (unrefused c)))
-
-size-of-requires : tie.Need-size-of-requires
-size-of-requires c κs = search needs
 
 returns-2 : tie.Need-returns-2
 returns-2 c =
@@ -41,4 +35,4 @@ returns-2 c =
 pub taken-by-spec : {M : Type 1} → statement M
 taken-by-spec =
     tie.close
-    (tie.spec read-property-requires returns length-of-requires size-of-requires returns-2)
+    (tie.spec (λ c κs. search needs) returns length-of-requires (λ c κs. search needs) returns-2)

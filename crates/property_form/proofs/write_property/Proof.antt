@@ -51,9 +51,6 @@ B c = c .before .before .before .args .buf .now
 unrefused : (c : tie.Else1) → property-refusal (meant (P c)) ≡ 0
 unrefused c = sym (c .before .refused .ensures) ∙ c .if1 .left
 
-refused-requires : tie.Need-refused-requires
-refused-requires c κs = search needs
-
 returns : tie.Need-returns
 returns c =
     let q = meant (c .before .before .before .args .p) in
@@ -78,9 +75,6 @@ returns-2 c =
 bits-of-requires : tie.Need-bits-of-requires
 bits-of-requires c κs = let e = c .before .before in omega (arith, taken-bounds (P e) (unrefused e))
 
-slice-aggregate-pack : tie.Need-slice-aggregate-pack
-slice-aggregate-pack c = search needs
-
 pack-requires : tie.Need-pack-requires
 pack-requires c κs =
     let bits = c .before .before in
@@ -92,9 +86,6 @@ pack-requires c κs =
       omega (arith, bits .before .if2 .left),
       list-bits p (l .result) (l .ensures),
     )
-
-same-length : tie.Need-same-length
-same-length c = search needs
 
 returns-3 : tie.Need-returns-3
 returns-3 c =
@@ -116,12 +107,12 @@ pub write-property-spec : {M : Type 1} → statement M
 write-property-spec =
     tie.close
     (tie.spec
-    refused-requires
+    (λ c κs. search needs)
     returns
     size-of-requires
     returns-2
     bits-of-requires
-    slice-aggregate-pack
+    (λ c. search needs)
     pack-requires
-    same-length
+    (λ c. search needs)
     returns-3)

@@ -7,18 +7,9 @@ use borrow.Author.Needs.{needs}
 use Rattle.reason_text.proofs.blind.Statement.{statement}
 use Rattle.reason_text.proofs.blind.Tie as tie
 
-empty-requires : tie.Need-empty-requires
-empty-requires c κs = search needs
-
-slice-aggregate-put-word : tie.Need-slice-aggregate-put-word
-slice-aggregate-put-word c = search needs
-
-put-word-requires : tie.Need-put-word-requires
-put-word-requires c κs = search needs
-
 returns : tie.Need-returns
 unfolding blind-text text-of
 returns c = whole (c .before .before .empty .ensures .0) (c .put-word .ensures) (lit≤ tt)
 
 pub blind-spec : {M : Type 1} → statement M
-blind-spec = tie.close (tie.spec empty-requires slice-aggregate-put-word put-word-requires returns)
+blind-spec = tie.close (tie.spec (λ c κs. search needs) (λ c. search needs) (λ c κs. search needs) returns)

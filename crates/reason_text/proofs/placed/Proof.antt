@@ -10,18 +10,6 @@ use borrow.Author.Needs.{needs}
 use Rattle.reason_text.proofs.placed.Statement.{statement}
 use Rattle.reason_text.proofs.placed.Tie as tie
 
-empty-requires : tie.Need-empty-requires
-empty-requires c κs = search needs
-
-put-field-requires : tie.Need-put-field-requires
-put-field-requires c κs = search needs
-
-put-moment-requires : tie.Need-put-moment-requires
-put-moment-requires c κs = search needs
-
-put-requires : tie.Need-put-requires
-put-requires c κs = search needs
-
 returns : tie.Need-returns
 unfolding placed-text
 returns c =
@@ -33,4 +21,4 @@ returns c =
 
 pub placed-spec : {M : Type 1} → statement M
 placed-spec =
-    tie.close (tie.spec empty-requires put-field-requires put-moment-requires put-requires returns)
+    tie.close (tie.spec (λ c κs. search needs) (λ c κs. search needs) (λ c κs. search needs) (λ c κs. search needs) returns)

@@ -14,15 +14,6 @@ use borrow.Author.Needs.{needs}
 use Rattle.reason_text.proofs.put_moment.Statement.{statement}
 use Rattle.reason_text.proofs.put_moment.Tie as tie
 
-put-requires : tie.Need-put-requires
-put-requires c κs = search needs
-
-below-zero-requires : tie.Need-below-zero-requires
-below-zero-requires c κs = search needs
-
-put-number-requires : tie.Need-put-number-requires
-put-number-requires c κs = search needs
-
 returns : tie.Need-returns
 returns c =
     let b = c .before .before .before in
@@ -41,9 +32,6 @@ cast-put-number c =
     subst (λ (z : ℤ). T (nonNeg z) × Fits w64 (natAbs z)) (sym (toZ-ofZ w64 (s .args .moment) (s .fits .moment)))
     (plain c, record { fits = omega (arith, natAbs-le (s .args .moment) (s .fits .moment .sfits)) })
 
-put-number-requires-2 : tie.Need-put-number-requires-2
-put-number-requires-2 c κs = search needs
-
 returns-2 : tie.Need-returns-2
 returns-2 c =
     let s = c .before .before in
@@ -53,11 +41,4 @@ returns-2 c =
 pub put-moment-spec : {M : Type 1} → statement M
 put-moment-spec =
     tie.close
-    (tie.spec
-    put-requires
-    below-zero-requires
-    put-number-requires
-    returns
-    cast-put-number
-    put-number-requires-2
-    returns-2)
+    (tie.spec (λ c κs. search needs) (λ c κs. search needs) (λ c κs. search needs) returns cast-put-number (λ c κs. search needs) returns-2)

@@ -7,21 +7,6 @@ use borrow.Author.Needs.{needs}
 use Rattle.reason_text.proofs.stop.Statement.{statement}
 use Rattle.reason_text.proofs.stop.Tie as tie
 
-empty-requires : tie.Need-empty-requires
-empty-requires c κs = search needs
-
-slice-aggregate-put-word : tie.Need-slice-aggregate-put-word
-slice-aggregate-put-word c = search needs
-
-put-word-requires : tie.Need-put-word-requires
-put-word-requires c κs = search needs
-
-put-number-requires : tie.Need-put-number-requires
-put-number-requires c κs = search needs
-
-put-requires : tie.Need-put-requires
-put-requires c κs = search needs
-
 returns : tie.Need-returns
 unfolding stop-alone-text
 returns c =
@@ -32,10 +17,4 @@ returns c =
 pub stop-spec : {M : Type 1} → statement M
 stop-spec =
     tie.close
-    (tie.spec
-    empty-requires
-    slice-aggregate-put-word
-    put-word-requires
-    put-number-requires
-    put-requires
-    returns)
+    (tie.spec (λ c κs. search needs) (λ c. search needs) (λ c κs. search needs) (λ c κs. search needs) (λ c κs. search needs) returns)

@@ -5,14 +5,8 @@ use Rattle.fields.proofs.Laws.{is-field-lt}
 use Rattle.record_fields.proofs.action_field.Statement.{statement}
 use Rattle.record_fields.proofs.action_field.Tie as tie
 
-field-at-requires : tie.Need-field-at-requires
-field-at-requires c κs = search needs
-
 cast-result : tie.Need-cast-result
 cast-result c = omega (arith, is-field-lt _ _ 6 (c .field-at .ensures))
 
-returns : tie.Need-returns
-returns c = search needs
-
 pub action-field-spec : {M : Type 1} → statement M
-action-field-spec = tie.close (tie.spec field-at-requires cast-result returns)
+action-field-spec = tie.close (tie.spec (λ c κs. search needs) cast-result (λ c. search needs))

@@ -7,14 +7,8 @@ use Rattle.fields.proofs.Packed.{field-byte, field-byte-first}
 use Rattle.record_fields.proofs.stamp_field.Statement.{statement}
 use Rattle.record_fields.proofs.stamp_field.Tie as tie
 
-shared-slice-read-result : tie.Need-shared-slice-read-result
-shared-slice-read-result c = search needs
-
 cast-result : tie.Need-cast-result
 cast-result c = fits-under _ _ 256 (c .shared-slice-known .given _ .fits) tt
-
-shared-slice-read-result-2 : tie.Need-shared-slice-read-result-2
-shared-slice-read-result-2 c = search needs
 
 cast-result-2 : tie.Need-cast-result-2
 cast-result-2 c = fits-under _ _ 256 (c .shared-slice-known2 .given _ .fits) tt
@@ -22,26 +16,17 @@ cast-result-2 c = fits-under _ _ 256 (c .shared-slice-known2 .given _ .fits) tt
 add-result : tie.Need-add-result
 add-result c = let byte = c .shared-slice-known2 .given in omega (arith, byte 1, byte 2, byte 3, byte 4, byte 5)
 
-shared-slice-read-result-3 : tie.Need-shared-slice-read-result-3
-shared-slice-read-result-3 c = search needs
-
 cast-result-3 : tie.Need-cast-result-3
 cast-result-3 c = fits-under _ _ 256 (c .shared-slice-known3 .given _ .fits) tt
 
 add-result-2 : tie.Need-add-result-2
 add-result-2 c = let byte = c .shared-slice-known3 .given in omega (arith, byte 1, byte 2, byte 3, byte 4, byte 5)
 
-shared-slice-read-result-4 : tie.Need-shared-slice-read-result-4
-shared-slice-read-result-4 c = search needs
-
 cast-result-4 : tie.Need-cast-result-4
 cast-result-4 c = fits-under _ _ 256 (c .shared-slice-known4 .given _ .fits) tt
 
 add-result-3 : tie.Need-add-result-3
 add-result-3 c = let byte = c .shared-slice-known4 .given in omega (arith, byte 1, byte 2, byte 3, byte 4, byte 5)
-
-shared-slice-read-result-5 : tie.Need-shared-slice-read-result-5
-shared-slice-read-result-5 c = search needs
 
 cast-result-5 : tie.Need-cast-result-5
 cast-result-5 c = fits-under _ _ 256 (c .shared-slice-known5 .given _ .fits) tt
@@ -70,18 +55,18 @@ pub stamp-field-spec : {M : Type 1} → statement M
 stamp-field-spec =
     tie.close
     (tie.spec
-    shared-slice-read-result
+    (λ c. search needs)
     cast-result
-    shared-slice-read-result-2
+    (λ c. search needs)
     cast-result-2
     add-result
-    shared-slice-read-result-3
+    (λ c. search needs)
     cast-result-3
     add-result-2
-    shared-slice-read-result-4
+    (λ c. search needs)
     cast-result-4
     add-result-3
-    shared-slice-read-result-5
+    (λ c. search needs)
     cast-result-5
     add-result-4
     returns)

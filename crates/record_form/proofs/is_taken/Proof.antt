@@ -11,21 +11,6 @@ use Rattle.record_form.proofs.is_taken.Tie as tie
 abbrev refusal-is-0 : RecordRead → Bool
 refusal-is-0 read = eqb (numbers read .refusal) 0
 
-enum-told : tie.Need-enum-told
-enum-told c = search needs
-
-enum-told-2 : tie.Need-enum-told-2
-enum-told-2 c = search needs
-
-enum-told-3 : tie.Need-enum-told-3
-enum-told-3 c = search needs
-
-enum-told-4 : tie.Need-enum-told-4
-enum-told-4 c = search needs
-
-enum-known-read : tie.Need-enum-known-read
-enum-known-read c = search needs
-
 returns : tie.Need-returns
 returns c = ap refusal-is-0 (sym (c .enum-told .given .1))
 
@@ -45,11 +30,11 @@ pub is-taken-spec : {M : Type 1} → statement M
 is-taken-spec =
     tie.close
     (tie.spec
-    enum-told
-    enum-told-2
-    enum-told-3
-    enum-told-4
-    enum-known-read
+    (λ c. search needs)
+    (λ c. search needs)
+    (λ c. search needs)
+    (λ c. search needs)
+    (λ c. search needs)
     returns
     returns-2
     returns-3

@@ -25,42 +25,12 @@ is-filled c =
     (first .put-field .ensures) (second .put-field2 .ensures) (c .put-field3 .ensures)
     ∙ ap₂ (λ (k a : ℕ). record-bits k a (start c .args .less)) (first .before .wide .ensures) (second .before .wide2 .ensures)
 
-slice-aggregate-put-field : tie.Need-slice-aggregate-put-field
-slice-aggregate-put-field c = search needs
-
-wide-requires : tie.Need-wide-requires
-wide-requires c κs = search needs
-
-put-field-requires : tie.Need-put-field-requires
-put-field-requires c κs = search needs
-
-slice-aggregate-put-field-2 : tie.Need-slice-aggregate-put-field-2
-slice-aggregate-put-field-2 c = search needs
-
-wide-requires-2 : tie.Need-wide-requires-2
-wide-requires-2 c κs = search needs
-
-put-field-requires-2 : tie.Need-put-field-requires-2
-put-field-requires-2 c κs = search needs
-
-slice-aggregate-put-field-3 : tie.Need-slice-aggregate-put-field-3
-slice-aggregate-put-field-3 c = search needs
-
-put-field-requires-3 : tie.Need-put-field-requires-3
-put-field-requires-3 c κs = search needs
-
-slice-aggregate-pack : tie.Need-slice-aggregate-pack
-slice-aggregate-pack c = search needs
-
 pack-requires : tie.Need-pack-requires
 pack-requires c κs =
     let e = c .before .before .before in
     let l : e .put-field3 .last .0 ≡ bits-of e = is-filled e in
     let n : length (bits-of e) ≡ 48 = length-record-bits _ _ _ in
     (omega (arith, ap length l, n), omega arith, subst (λ (x : List ℕ). Bits (at x)) (sym l) (Bits-record _ _ _))
-
-same-length : tie.Need-same-length
-same-length c = search needs
 
 returns : tie.Need-returns
 returns c =
@@ -74,15 +44,15 @@ pub put-record-spec : {M : Type 1} → statement M
 put-record-spec =
     tie.close
     (tie.spec
-    slice-aggregate-put-field
-    wide-requires
-    put-field-requires
-    slice-aggregate-put-field-2
-    wide-requires-2
-    put-field-requires-2
-    slice-aggregate-put-field-3
-    put-field-requires-3
-    slice-aggregate-pack
+    (λ c. search needs)
+    (λ c κs. search needs)
+    (λ c κs. search needs)
+    (λ c. search needs)
+    (λ c κs. search needs)
+    (λ c κs. search needs)
+    (λ c. search needs)
+    (λ c κs. search needs)
+    (λ c. search needs)
     pack-requires
-    same-length
+    (λ c. search needs)
     returns)

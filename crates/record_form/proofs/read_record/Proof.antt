@@ -10,15 +10,6 @@ use Rattle.record_form.proofs.read_record.Tie as tie
 returns : tie.Need-returns
 returns c = read-short (now (c .before .before .args .s)) _ (omega arith)
 
-kind-field-requires : tie.Need-kind-field-requires
-kind-field-requires c κs = search needs
-
-action-field-requires : tie.Need-action-field-requires
-action-field-requires c κs = search needs
-
-stamp-field-requires : tie.Need-stamp-field-requires
-stamp-field-requires c κs = search needs
-
 record-of-requires : tie.Need-record-of-requires
 record-of-requires c κs = is-field-lt _ _ 2 (c .before .before .kind-field .ensures)
 
@@ -30,4 +21,4 @@ returns-2 c =
 pub read-record-spec : {M : Type 1} → statement M
 read-record-spec =
     tie.close
-    (tie.spec returns kind-field-requires action-field-requires stamp-field-requires record-of-requires returns-2)
+    (tie.spec returns (λ c κs. search needs) (λ c κs. search needs) (λ c κs. search needs) record-of-requires returns-2)

@@ -42,9 +42,6 @@ sum-fits : (before less : ℕ) → stamp-above (before + less) before ≡ false 
 sum-fits before less h = let p = within _ _ h in omega arith
 
 -- ---- an input
-sum-above-requires : tie.Need-sum-above-requires
-sum-above-requires c κs = search needs
-
 returns : tie.Need-returns
 returns c =
     sym (answer-above _ _ _ _ (input-sound (c .before .before)) (sym (c .before .sum-above .ensures) ∙ c .if1 .taken))
@@ -53,9 +50,6 @@ add-t7 : tie.Need-add-t7
 add-t7 c = sum-fits _ _ (sym (c .before .sum-above .ensures) ∙ c .if1 .left)
 
 -- ---- an output
-sum-above-requires-2 : tie.Need-sum-above-requires-2
-sum-above-requires-2 c κs = search needs
-
 returns-2 : tie.Need-returns-2
 returns-2 c =
     sym (answer-above _ _ _ _ (output-sound (c .before .before)) (sym (c .before .sum-above2 .ensures) ∙ c .if2 .taken))
@@ -64,9 +58,6 @@ add-t9 : tie.Need-add-t9
 add-t9 c = sum-fits _ _ (sym (c .before .sum-above2 .ensures) ∙ c .if2 .left)
 
 -- ---- a gap
-sum-above-requires-3 : tie.Need-sum-above-requires-3
-sum-above-requires-3 c κs = search needs
-
 returns-3 : tie.Need-returns-3
 returns-3 c =
     sym (answer-above _ _ _ _ (gap-sound (c .before .before)) (sym (c .before .sum-above3 .ensures) ∙ c .if3 .taken))
@@ -118,13 +109,13 @@ pub record-of-spec : {M : Type 1} → statement M
 record-of-spec =
     tie.close
     (tie.spec
-    sum-above-requires
+    (λ c κs. search needs)
     returns
     add-t7
-    sum-above-requires-2
+    (λ c κs. search needs)
     returns-2
     add-t9
-    sum-above-requires-3
+    (λ c κs. search needs)
     returns-3
     add-t11
     returns-4

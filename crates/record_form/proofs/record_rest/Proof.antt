@@ -34,20 +34,11 @@ one-refused c e = eqb-false _ 0 (sym (c .before .is-taken .ensures) ∙ c .if1 .
 there : (c : tie.Then1) → Readable (now (S (c .before))) (before (c .before))
 there c = is-taken _ _ (none-refused c)
 
-read-record-requires : tie.Need-read-record-requires
-read-record-requires c κs = search needs
-
-is-taken-requires : tie.Need-is-taken-requires
-is-taken-requires c κs = search needs
-
 sub-result : tie.Need-sub-result
 sub-result c = omega (arith, there c .size)
 
 part-result-start : tie.Need-part-result-start
 part-result-start c = omega (arith, there c .size)
-
-part-result-end : tie.Need-part-result-end
-part-result-end c = search needs
 
 returns : tie.Need-returns
 returns c = rest-part 6 _ _ _ (size-taken _ _ (none-refused (c .before))) refl (omega arith) refl
@@ -60,11 +51,4 @@ returns-2 c =
 pub record-rest-spec : {M : Type 1} → statement M
 record-rest-spec =
     tie.close
-    (tie.spec
-    read-record-requires
-    is-taken-requires
-    sub-result
-    part-result-start
-    part-result-end
-    returns
-    returns-2)
+    (tie.spec (λ c κs. search needs) (λ c κs. search needs) sub-result part-result-start (λ c. search needs) returns returns-2)

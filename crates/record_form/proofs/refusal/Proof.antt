@@ -27,9 +27,6 @@ not-4 c = none-past _ _ (c .before .if3 .left) (c .if4 .left)
 not-5 : (c : tie.Else5) → ltb (fourth (c .before) .args .stamp) (fourth (c .before) .args .before) ≡ false
 not-5 c = le-ltb _ _ (c .if5 .left)
 
-to-be-broken-requires : tie.Need-to-be-broken-requires
-to-be-broken-requires c κs = search needs
-
 returns : tie.Need-returns
 unfolding write-refusal
 returns c = simp (sym (c .before .to-be-broken .ensures) ∙ c .if1 .taken)
@@ -76,12 +73,4 @@ returns-7 c =
 pub refusal-spec : {M : Type 1} → statement M
 refusal-spec =
     tie.close
-    (tie.spec
-    to-be-broken-requires
-    returns
-    returns-2
-    returns-3
-    returns-4
-    returns-5
-    returns-6
-    returns-7)
+    (tie.spec (λ c κs. search needs) returns returns-2 returns-3 returns-4 returns-5 returns-6 returns-7)

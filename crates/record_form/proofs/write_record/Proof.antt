@@ -23,9 +23,6 @@ writable : (c : tie.Else1)
     → Writable (start c .args .kind) (start c .args .action) (start c .args .stamp) (start c .args .before) (room c)
 writable c = is-writable _ _ _ _ _ (unrefused c)
 
-refusal-requires : tie.Need-refusal-requires
-refusal-requires c κs = search needs
-
 returns : tie.Need-returns
 returns c =
     record {
@@ -39,9 +36,6 @@ sub-put-record c = writable c .not-below
 put-record-requires : tie.Need-put-record-requires
 put-record-requires c κs = writable (c .before) .fits
 
-same-length : tie.Need-same-length
-same-length c = search needs
-
 returns-2 : tie.Need-returns-2
 returns-2 c =
     let e = c .before .before .before .before in
@@ -53,4 +47,4 @@ returns-2 c =
 pub write-record-spec : {M : Type 1} → statement M
 write-record-spec =
     tie.close
-    (tie.spec refusal-requires returns sub-put-record put-record-requires same-length returns-2)
+    (tie.spec (λ c κs. search needs) returns sub-put-record put-record-requires (λ c. search needs) returns-2)

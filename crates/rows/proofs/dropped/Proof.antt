@@ -39,12 +39,6 @@ lower-requires c κs =
       b .pre .1,
     )
 
-add-k : tie.Need-add-k Inv-loop μ-loop
-add-k c = search needs
-
-loop-less : tie.Need-loop-less Inv-loop μ-loop
-loop-less c = search needs
-
 loop-again : tie.Need-loop-again Inv-loop μ-loop
 loop-again c =
     let k = c .before .before in
@@ -53,12 +47,6 @@ loop-again c =
       omega (arith, k .before .loop-test, w .inv .1 .tall),
       moving-more (a .span .count - a .d + 1) (a .d) (a .rows .now) (w .k) (w .rows) (c .before .lower .last .0) (w .inv .1) (c .before .lower .ensures),
     )
-
-sub-t12 : tie.Need-sub-t12 Inv-loop μ-loop
-sub-t12 c = search needs
-
-same-length : tie.Need-same-length Inv-loop μ-loop
-same-length c = search needs
 
 returns-2 : tie.Need-returns-2 Inv-loop μ-loop
 returns-2 c =
@@ -79,9 +67,9 @@ dropped-spec =
     returns
     loop-holds
     lower-requires
-    add-k
-    loop-less
+    (λ c. search needs)
+    (λ c. search needs)
     loop-again
-    sub-t12
-    same-length
+    (λ c. search needs)
+    (λ c. search needs)
     returns-2)

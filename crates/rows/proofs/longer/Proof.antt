@@ -5,12 +5,9 @@ use borrow.Author.Needs.{needs}
 use Rattle.rows.proofs.longer.Statement.{statement}
 use Rattle.rows.proofs.longer.Tie as tie
 
-add-t2 : tie.Need-add-t2
-add-t2 c = search needs
-
 returns : tie.Need-returns
 unfolding longer
 returns c = refl
 
 pub longer-spec : {M : Type 1} → statement M
-longer-spec = tie.close (tie.spec add-t2 returns)
+longer-spec = tie.close (tie.spec (λ c. search needs) returns)

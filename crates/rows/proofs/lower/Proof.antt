@@ -14,53 +14,14 @@ Inv-loop rows₀ k last d left i₀ rows i = (i ≤ last - d + 1) × Lowered k i
 abbrev μ-loop : tie.MeasureT-loop
 μ-loop rows₀ k last d left i₀ rows i = last - d + 1 - i
 
-sub-left : tie.Need-sub-left Inv-loop μ-loop
-sub-left c = search needs
-
 loop-holds : tie.Need-loop-holds Inv-loop μ-loop
 loop-holds c = (omega arith, lowered-none (c .args .k) (c .args .d) (c .args .rows .now))
-
-add-rows : tie.Need-add-rows Inv-loop μ-loop
-add-rows c = search needs
-
-mul-rows : tie.Need-mul-rows Inv-loop μ-loop
-mul-rows c = search needs
-
-mul-rows-2 : tie.Need-mul-rows-2 Inv-loop μ-loop
-mul-rows-2 c = search needs
-
-index-1-rows : tie.Need-index-1-rows Inv-loop μ-loop
-index-1-rows c = search needs
-
-index-2-rows : tie.Need-index-2-rows Inv-loop μ-loop
-index-2-rows c = search needs
-
-mul-rows-3 : tie.Need-mul-rows-3 Inv-loop μ-loop
-mul-rows-3 c = search needs
-
-mul-rows-4 : tie.Need-mul-rows-4 Inv-loop μ-loop
-mul-rows-4 c = search needs
-
-index-1-rows-2 : tie.Need-index-1-rows-2 Inv-loop μ-loop
-index-1-rows-2 c = search needs
-
-index-2-rows-2 : tie.Need-index-2-rows-2 Inv-loop μ-loop
-index-2-rows-2 c = search needs
-
-add-i : tie.Need-add-i Inv-loop μ-loop
-add-i c = search needs
-
-loop-less : tie.Need-loop-less Inv-loop μ-loop
-loop-less c = search needs
 
 loop-again : tie.Need-loop-again Inv-loop μ-loop
 loop-again c =
     let t = c .before .before in
     let b = t .before in
     (omega (arith, t .loop), lowered-more (b .args .k) (b .args .d) (b .args .rows .now) (t .loop .i) (t .loop .rows) (b .pre .0) (omega (arith, b .pre)) (t .loop .inv .1))
-
-same-length : tie.Need-same-length Inv-loop μ-loop
-same-length c = search needs
 
 returns : tie.Need-returns Inv-loop μ-loop
 returns c =
@@ -74,19 +35,19 @@ lower-spec =
     (tie.spec
     Inv-loop
     μ-loop
-    sub-left
+    (λ c. search needs)
     loop-holds
-    add-rows
-    mul-rows
-    mul-rows-2
-    index-1-rows
-    index-2-rows
-    mul-rows-3
-    mul-rows-4
-    index-1-rows-2
-    index-2-rows-2
-    add-i
-    loop-less
+    (λ c. search needs)
+    (λ c. search needs)
+    (λ c. search needs)
+    (λ c. search needs)
+    (λ c. search needs)
+    (λ c. search needs)
+    (λ c. search needs)
+    (λ c. search needs)
+    (λ c. search needs)
+    (λ c. search needs)
+    (λ c. search needs)
     loop-again
-    same-length
+    (λ c. search needs)
     returns)

@@ -9,19 +9,10 @@ use borrow.Author.Needs.{needs}
 use Rattle.run_line.proofs.begin.Statement.{statement}
 use Rattle.run_line.proofs.begin.Tie as tie
 
-spanning-requires : tie.Need-spanning-requires
-spanning-requires c κs = search needs
-
-start-requires : tie.Need-start-requires
-start-requires c κs = search needs
-
 put-cut-requires : tie.Need-put-cut-requires
 put-cut-requires c κs =
     let k = c .before .before in
     (subst (Room (k .before .args .rows .now)) (sym (k .spanning .ensures)) (k .before .pre .0), k .before .pre .1, omega arith)
-
-same-length : tie.Need-same-length
-same-length c = search needs
 
 returns : tie.Need-returns
 returns c =
@@ -34,4 +25,4 @@ returns c =
 
 pub begin-spec : {M : Type 1} → statement M
 begin-spec =
-    tie.close (tie.spec spanning-requires start-requires put-cut-requires same-length returns)
+    tie.close (tie.spec (λ c κs. search needs) (λ c κs. search needs) put-cut-requires (λ c. search needs) returns)

@@ -26,15 +26,6 @@ take-line-requires c κs =
     let b = c .before in
     (b .pre .0, (b .pre .1 .0, b .pre .1 .1, λ e. room (b .args .span .count - b .args .closed) (b .args .output) e (b .pre .1 .2)))
 
-verdict-requires : tie.Need-verdict-requires
-verdict-requires c κs = search needs
-
-taken-requires : tie.Need-taken-requires
-taken-requires c κs = search needs
-
-same-length : tie.Need-same-length
-same-length c = search needs
-
 returns : tie.Need-returns
 returns c =
     let k = taken c in
@@ -53,4 +44,4 @@ returns c =
 
 pub run-on-spec : {M : Type 1} → statement M
 run-on-spec =
-    tie.close (tie.spec take-line-requires verdict-requires taken-requires same-length returns)
+    tie.close (tie.spec take-line-requires (λ c κs. search needs) (λ c κs. search needs) (λ c. search needs) returns)

@@ -10,21 +10,6 @@ use borrow.Author.Needs.{needs}
 use Rattle.session.proofs.fresh.Statement.{statement}
 use Rattle.session.proofs.fresh.Tie as tie
 
-refused-requires : tie.Need-refused-requires
-refused-requires c κs = search needs
-
-no-property-requires : tie.Need-no-property-requires
-no-property-requires c κs = search needs
-
-none-requires : tie.Need-none-requires
-none-requires c κs = search needs
-
-blank-requires : tie.Need-blank-requires
-blank-requires c κs = search needs
-
-unmoved-requires : tie.Need-unmoved-requires
-unmoved-requires c κs = search needs
-
 returns : tie.Need-returns
 returns c =
     let made = c .before in
@@ -35,15 +20,6 @@ returns c =
     ∙ ap (λ (s : Session). record { answer = answer-of (Calls.refused (number .refused .result)); session = s })
     (made .blank .ensures ∙ (λ i. blank (none .before .no-property .ensures i) (none .none .ensures i)) ∙ blank-zeros)
     ∙ sym (fresh-refused (number .before .args .p) (number .refused .result) (sym (number .refused .ensures)) (t .if1 .taken))
-
-start-requires : tie.Need-start-requires
-start-requires c κs = search needs
-
-blank-requires-2 : tie.Need-blank-requires-2
-blank-requires-2 c κs = search needs
-
-unmoved-requires-2 : tie.Need-unmoved-requires-2
-unmoved-requires-2 c κs = search needs
 
 returns-2 : tie.Need-returns-2
 returns-2 c =
@@ -60,13 +36,13 @@ pub fresh-spec : {M : Type 1} → statement M
 fresh-spec =
     tie.close
     (tie.spec
-    refused-requires
-    no-property-requires
-    none-requires
-    blank-requires
-    unmoved-requires
+    (λ c κs. search needs)
+    (λ c κs. search needs)
+    (λ c κs. search needs)
+    (λ c κs. search needs)
+    (λ c κs. search needs)
     returns
-    start-requires
-    blank-requires-2
-    unmoved-requires-2
+    (λ c κs. search needs)
+    (λ c κs. search needs)
+    (λ c κs. search needs)
     returns-2)

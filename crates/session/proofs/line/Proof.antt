@@ -49,12 +49,6 @@ advanced k =
 abbrev answered : tie.After-struct-known → tie.After-line
 answered k = k .before .before .before
 
-unfit-requires : tie.Need-unfit-requires
-unfit-requires c κs = search needs
-
-unmoved-requires : tie.Need-unmoved-requires
-unmoved-requires c κs = search needs
-
 returns : tie.Need-returns
 returns c =
     let t = c .before in
@@ -64,17 +58,8 @@ returns c =
 table-requires : tie.Need-table-requires
 table-requires c κs = let e = c .before .before in ranged (given (e .before .before)) (fit e) .formed
 
-rows-of-requires : tie.Need-rows-of-requires
-rows-of-requires c κs = search needs
-
-slice-aggregate-line : tie.Need-slice-aggregate-line
-slice-aggregate-line c = search needs
-
 line-requires : tie.Need-line-requires
 line-requires c κs = let k = c .before .before in (ready k, k .before .table .ensures)
-
-unmoved-requires-2 : tie.Need-unmoved-requires-2
-unmoved-requires-2 c κs = search needs
 
 returns-2 : tie.Need-returns-2
 returns-2 c =
@@ -82,9 +67,6 @@ returns-2 c =
     let k = answered (t .before) in
     let b = entry (lent k) in
     c .unmoved2 .ensures ∙ by-value-refused (given b) (fit (passed (lent k))) (call b) (k .line .result .answer) (led k) (advanced k) (t .if2 .taken)
-
-slice-aggregate-made : tie.Need-slice-aggregate-made
-slice-aggregate-made c = search needs
 
 made-requires : tie.Need-made-requires
 made-requires c κs = advanced (answered (c .before .before)) .ready
@@ -101,15 +83,15 @@ pub line-spec : {M : Type 1} → statement M
 line-spec =
     tie.close
     (tie.spec
-    unfit-requires
-    unmoved-requires
+    (λ c κs. search needs)
+    (λ c κs. search needs)
     returns
     table-requires
-    rows-of-requires
-    slice-aggregate-line
+    (λ c κs. search needs)
+    (λ c. search needs)
     line-requires
-    unmoved-requires-2
+    (λ c κs. search needs)
     returns-2
-    slice-aggregate-made
+    (λ c. search needs)
     made-requires
     returns-3)

@@ -47,29 +47,14 @@ advanced k =
 abbrev answered : tie.After-struct-known → tie.After-mark
 answered k = k .before .before
 
-unfit-requires : tie.Need-unfit-requires
-unfit-requires c κs = search needs
-
-unmoved-requires : tie.Need-unmoved-requires
-unmoved-requires c κs = search needs
-
 returns : tie.Need-returns
 returns c =
     let t = c .before in
     let b = t .before .before in
     c .unmoved .ensures ∙ sym (named-refused (given b) (call b) (sym (t .before .unfit .ensures) ∙ t .if1 .taken))
 
-rows-of-requires : tie.Need-rows-of-requires
-rows-of-requires c κs = search needs
-
-slice-aggregate-mark : tie.Need-slice-aggregate-mark
-slice-aggregate-mark c = search needs
-
 mark-requires : tie.Need-mark-requires
 mark-requires c κs = ready (c .before)
-
-unmoved-requires-2 : tie.Need-unmoved-requires-2
-unmoved-requires-2 c κs = search needs
 
 returns-2 : tie.Need-returns-2
 returns-2 c =
@@ -77,9 +62,6 @@ returns-2 c =
     let k = answered (t .before) in
     let b = entry (lent k) in
     c .unmoved2 .ensures ∙ by-value-refused (given b) (fit (passed (lent k))) (call b) (k .mark .result .answer) (led k) (advanced k) (t .if2 .taken)
-
-slice-aggregate-made : tie.Need-slice-aggregate-made
-slice-aggregate-made c = search needs
 
 made-requires : tie.Need-made-requires
 made-requires c κs = advanced (answered (c .before .before)) .ready
@@ -96,14 +78,14 @@ pub mark-spec : {M : Type 1} → statement M
 mark-spec =
     tie.close
     (tie.spec
-    unfit-requires
-    unmoved-requires
+    (λ c κs. search needs)
+    (λ c κs. search needs)
     returns
-    rows-of-requires
-    slice-aggregate-mark
+    (λ c κs. search needs)
+    (λ c. search needs)
     mark-requires
-    unmoved-requires-2
+    (λ c κs. search needs)
     returns-2
-    slice-aggregate-made
+    (λ c. search needs)
     made-requires
     returns-3)

@@ -6,12 +6,9 @@ use borrow.Author.Needs.{needs}
 use Rattle.session.proofs.unmoved.Statement.{statement}
 use Rattle.session.proofs.unmoved.Tie as tie
 
-refused-requires : tie.Need-refused-requires
-refused-requires c κs = search needs
-
 returns : tie.Need-returns
 returns c =
     ap {B = Stepped} (λ (x : Answer). record { answer = x; session = c .before .args .s }) (c .refused .ensures)
 
 pub unmoved-spec : {M : Type 1} → statement M
-unmoved-spec = tie.close (tie.spec refused-requires returns)
+unmoved-spec = tie.close (tie.spec (λ c κs. search needs) returns)

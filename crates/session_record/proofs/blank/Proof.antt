@@ -19,22 +19,10 @@ one p c span clock =
       row = record { masks = c .mask ∷ replicate 64 0; armed = c .armed ∷ replicate 64 0 };
     }
 
-array-write-masks : tie.Need-array-write-masks
-array-write-masks c = search needs
-
-array-write-armed : tie.Need-array-write-armed
-array-write-armed c = search needs
-
-spanning-requires : tie.Need-spanning-requires
-spanning-requires c κs = search needs
-
-fresh-requires : tie.Need-fresh-requires
-fresh-requires c κs = search needs
-
 returns : tie.Need-returns
 returns c = λ i. one (c .before .before .args .p) (c .before .before .args .first) (c .before .spanning .ensures i) (c .fresh .ensures i)
 
 pub blank-spec : {M : Type 1} → statement M
 blank-spec =
     tie.close
-    (tie.spec array-write-masks array-write-armed spanning-requires fresh-requires returns)
+    (tie.spec (λ c. search needs) (λ c. search needs) (λ c κs. search needs) (λ c κs. search needs) returns)

@@ -13,9 +13,6 @@ use Rattle.session_record.proofs.made.Tie as tie
 abbrev entry : tie.Then1 → tie.Start
 entry t = t .before .before .before
 
-spanning-requires : tie.Need-spanning-requires
-spanning-requires c κs = search needs
-
 stored-requires : tie.Need-stored-requires
 stored-requires c κs =
     let b = entry (c .before) in
@@ -28,12 +25,6 @@ returns c =
     let m = memory (b .args .p) (b .args .rows .now) (b .args .status) in
     c .stored .ensures ∙ ap (λ (s : Span). packed-of (m .property) (m .rows) s 0 (m .status .clock)) (c .before .spanning .ensures) ∙ packed-blind m (b .pre) (t .if1 .taken)
 
-add-stored : tie.Need-add-stored
-add-stored c = search needs
-
-stored-requires-2 : tie.Need-stored-requires-2
-stored-requires-2 c κs = search needs
-
 returns-2 : tie.Need-returns-2
 returns-2 c =
     let e = c .before .before in
@@ -44,4 +35,4 @@ returns-2 c =
 pub made-spec : {M : Type 1} → statement M
 made-spec =
     tie.close
-    (tie.spec spanning-requires stored-requires returns add-stored stored-requires-2 returns-2)
+    (tie.spec (λ c κs. search needs) stored-requires returns (λ c. search needs) (λ c κs. search needs) returns-2)

@@ -4,21 +4,6 @@ use borrow.Author.Needs.{needs}
 use Rattle.session_record.proofs.stored.Statement.{statement}
 use Rattle.session_record.proofs.stored.Tie as tie
 
-packed-requires : tie.Need-packed-requires
-packed-requires c κs = search needs
-
-packed-requires-2 : tie.Need-packed-requires-2
-packed-requires-2 c κs = search needs
-
-packed-requires-3 : tie.Need-packed-requires-3
-packed-requires-3 c κs = search needs
-
-packed-requires-4 : tie.Need-packed-requires-4
-packed-requires-4 c κs = search needs
-
-spanning-requires : tie.Need-spanning-requires
-spanning-requires c κs = search needs
-
 returns : tie.Need-returns
 returns c =
     let cuts = c .before .before in
@@ -30,10 +15,4 @@ returns c =
 pub stored-spec : {M : Type 1} → statement M
 stored-spec =
     tie.close
-    (tie.spec
-    packed-requires
-    packed-requires-2
-    packed-requires-3
-    packed-requires-4
-    spanning-requires
-    returns)
+    (tie.spec (λ c κs. search needs) (λ c κs. search needs) (λ c κs. search needs) (λ c κs. search needs) (λ c κs. search needs) returns)

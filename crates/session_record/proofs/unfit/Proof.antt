@@ -63,9 +63,6 @@ fell k =
 rising : (e : tie.Else3) → fallen (S (back-1 (back-2 e))) ≡ false
 rising e = sym (fell (lent e)) ∙ e .if3 .left
 
-refused-requires : tie.Need-refused-requires
-refused-requires c κs = search needs
-
 returns : tie.Need-returns
 returns c =
     let k = c .before in
@@ -78,12 +75,6 @@ returns-2 : tie.Need-returns-2
 returns-2 c =
     let e = after-2 c in
     sym (range-tests (S e) false true (fallen (S e)) (held-blind (S e)) (late (S e)) (too-long (S e)) (formed e) (lt-ltb most-open (count-of (S e)) (c .if2 .taken)) refl refl refl refl)
-
-rows-of-requires : tie.Need-rows-of-requires
-rows-of-requires c κs = search needs
-
-slice-aggregate-falls : tie.Need-slice-aggregate-falls
-slice-aggregate-falls c = search needs
 
 falls-requires : tie.Need-falls-requires
 falls-requires c κs = rooms (c .before)
@@ -117,9 +108,6 @@ returns-5 c =
     ∙ ap (λ (b : Bool). b || false) (or-false (ltb 0 (count-of s)))
     ∙ or-false (ltb 0 (count-of s)))
 
-slice-aggregate-strays : tie.Need-slice-aggregate-strays
-slice-aggregate-strays c = search needs
-
 strays-requires : tie.Need-strays-requires
 strays-requires c κs =
     let k = lent (back-3 (c .before .before)) in
@@ -144,15 +132,15 @@ pub unfit-spec : {M : Type 1} → statement M
 unfit-spec =
     tie.close
     (tie.spec
-    refused-requires
+    (λ c κs. search needs)
     returns
     returns-2
-    rows-of-requires
-    slice-aggregate-falls
+    (λ c κs. search needs)
+    (λ c. search needs)
     falls-requires
     returns-3
     returns-4
     returns-5
-    slice-aggregate-strays
+    (λ c. search needs)
     strays-requires
     returns-6)

@@ -25,24 +25,6 @@ came k = k .before .before .before .before
 slice-aggregate-read-full : tie.Need-slice-aggregate-read-full
 slice-aggregate-read-full c = search needs
 
-read-full-requires : tie.Need-read-full-requires
-read-full-requires c κs = search needs
-
-array-share-prefix-bytes : tie.Need-array-share-prefix-bytes
-array-share-prefix-bytes c = search needs
-
-slice-aggregate-read-record : tie.Need-slice-aggregate-read-record
-slice-aggregate-read-record c = search needs
-
-read-record-requires : tie.Need-read-record-requires
-read-record-requires c κs = search needs
-
-take-requires : tie.Need-take-requires
-take-requires c κs = search needs
-
-same-length : tie.Need-same-length
-same-length c = search needs
-
 returns : tie.Need-returns
 returns c =
     let read = reading c in
@@ -55,10 +37,10 @@ next-spec =
     tie.close
     (tie.spec
     slice-aggregate-read-full
-    read-full-requires
-    array-share-prefix-bytes
-    slice-aggregate-read-record
-    read-record-requires
-    take-requires
-    same-length
+    (λ c κs. search needs)
+    (λ c. search needs)
+    (λ c. search needs)
+    (λ c κs. search needs)
+    (λ c κs. search needs)
+    (λ c. search needs)
     returns)

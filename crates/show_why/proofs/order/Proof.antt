@@ -19,29 +19,11 @@ abbrev μ-loop : tie.MeasureT-loop
 loop-holds : tie.Need-loop-holds Inv-loop μ-loop
 loop-holds c = omega arith
 
-mul-placed : tie.Need-mul-placed Inv-loop μ-loop
-mul-placed c = search needs
-
-element-copy-out-placed : tie.Need-element-copy-out-placed Inv-loop μ-loop
-element-copy-out-placed c = search needs
-
-mul-placed-2 : tie.Need-mul-placed-2 Inv-loop μ-loop
-mul-placed-2 c = search needs
-
-element-copy-out-placed-2 : tie.Need-element-copy-out-placed-2 Inv-loop μ-loop
-element-copy-out-placed-2 c = search needs
-
-placed-requires : tie.Need-placed-requires Inv-loop μ-loop
-placed-requires c κs = search needs
-
 write-requires : tie.Need-write-requires Inv-loop μ-loop
 write-requires c κs = subst (λ (t : Text). t .len ≤ room) (sym (c .placed .ensures)) (text-len _ (placed-fits _ _))
 
 returns : tie.Need-returns Inv-loop μ-loop
 returns c = tt
-
-add-i : tie.Need-add-i Inv-loop μ-loop
-add-i c = search needs
 
 loop-less : tie.Need-loop-less Inv-loop μ-loop
 loop-less c = omega arith
@@ -59,14 +41,14 @@ order-spec =
     Inv-loop
     μ-loop
     loop-holds
-    mul-placed
-    element-copy-out-placed
-    mul-placed-2
-    element-copy-out-placed-2
-    placed-requires
+    (λ c. search needs)
+    (λ c. search needs)
+    (λ c. search needs)
+    (λ c. search needs)
+    (λ c κs. search needs)
     write-requires
     returns
-    add-i
+    (λ c. search needs)
     loop-less
     loop-again
     returns-2)

@@ -57,15 +57,6 @@ lines k =
 gone : (k : tie.After-next Inv-loop μ-loop) → Going (after k) (lines k) (turn k .before .loop .turns - 1)
 gone k = going-on _ _ _ (turn k .loop-test .taken) (turn k .before .loop .inv .0) (k .next .ensures)
 
-table-requires : tie.Need-table-requires Inv-loop μ-loop
-table-requires c κs = search needs
-
-fresh-requires : tie.Need-fresh-requires Inv-loop μ-loop
-fresh-requires c κs = search needs
-
-rows-of-requires : tie.Need-rows-of-requires Inv-loop μ-loop
-rows-of-requires c κs = search needs
-
 loop-holds : tie.Need-loop-holds Inv-loop μ-loop
 loop-holds c =
     let k = c .before in
@@ -80,17 +71,11 @@ loop-holds c =
       rows .ensures .1,
     )
 
-slice-aggregate-next : tie.Need-slice-aggregate-next Inv-loop μ-loop
-slice-aggregate-next c = search needs
-
 next-requires : tie.Need-next-requires Inv-loop μ-loop
 next-requires c κs =
     let t = turning c in
     let g = t .before .loop .inv .0 in
     (g .ready, made (t .before) .before .table .ensures, omega (arith, g .left, t .loop-test .taken))
-
-enum-told : tie.Need-enum-told Inv-loop μ-loop
-enum-told c = search needs
 
 sub-turns : tie.Need-sub-turns Inv-loop μ-loop
 sub-turns c = omega arith
@@ -100,12 +85,6 @@ loop-less c = omega arith
 
 loop-again : tie.Need-loop-again Inv-loop μ-loop
 loop-again c = let k = told (c .before) in (gone k, search needs)
-
-enum-told-2 : tie.Need-enum-told-2 Inv-loop μ-loop
-enum-told-2 c = search needs
-
-blind-requires : tie.Need-blind-requires Inv-loop μ-loop
-blind-requires c κs = search needs
 
 write-requires : tie.Need-write-requires Inv-loop μ-loop
 write-requires c κs = subst (λ (t : Text). t .len ≤ room) (sym (c .blind .ensures)) (text-len _ blind-fits)
@@ -128,12 +107,6 @@ tell-requires c κs = let a = c .before in let e = a .before .before in going-op
 returns-2 : tie.Need-returns-2 Inv-loop μ-loop
 returns-2 c = tt
 
-enum-known-did : tie.Need-enum-known-did Inv-loop μ-loop
-enum-known-did c = search needs
-
-stop-requires : tie.Need-stop-requires Inv-loop μ-loop
-stop-requires c κs = search needs
-
 returns-3 : tie.Need-returns-3 Inv-loop μ-loop
 returns-3 c = tt
 
@@ -146,18 +119,18 @@ records-spec =
     (tie.spec
     Inv-loop
     μ-loop
-    table-requires
-    fresh-requires
-    rows-of-requires
+    (λ c κs. search needs)
+    (λ c κs. search needs)
+    (λ c κs. search needs)
     loop-holds
-    slice-aggregate-next
+    (λ c. search needs)
     next-requires
-    enum-told
+    (λ c. search needs)
     sub-turns
     loop-less
     loop-again
-    enum-told-2
-    blind-requires
+    (λ c. search needs)
+    (λ c κs. search needs)
     write-requires
     returns
     slice-aggregate-tell
@@ -165,7 +138,7 @@ records-spec =
     slice-aggregate-tell-3
     tell-requires
     returns-2
-    enum-known-did
-    stop-requires
+    (λ c. search needs)
+    (λ c κs. search needs)
     returns-3
     returns-4)

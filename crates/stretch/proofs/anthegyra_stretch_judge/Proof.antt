@@ -9,12 +9,6 @@ use Rattle.stretch.proofs.Bounds.{judged-small}
 use Rattle.stretch.proofs.anthegyra_stretch_judge.Statement.{statement}
 use Rattle.stretch.proofs.anthegyra_stretch_judge.Tie as tie
 
-judge-requires : tie.Need-judge-requires
-judge-requires c κs = search needs
-
-mul-result : tie.Need-mul-result
-mul-result c = search needs
-
 returns : tie.Need-returns
 returns c = one-long (c .before .before .judge .result) (c .if1 .taken) ∙ ap one-number (c .before .before .judge .ensures)
 
@@ -52,12 +46,4 @@ returns-2 c = one-short (c .before .before .before .before .judge .result) (c .b
 pub anthegyra-stretch-judge-spec : {M : Type 1} → statement M
 anthegyra-stretch-judge-spec =
     tie.close
-    (tie.spec
-    judge-requires
-    mul-result
-    returns
-    mul-result-2
-    mul-result-3
-    add-result
-    add-result-2
-    returns-2)
+    (tie.spec (λ c κs. search needs) (λ c. search needs) returns mul-result-2 mul-result-3 add-result add-result-2 returns-2)

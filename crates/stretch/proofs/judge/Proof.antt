@@ -6,12 +6,6 @@ use borrow.Author.Needs.{needs}
 use Rattle.stretch.proofs.judge.Statement.{statement}
 use Rattle.stretch.proofs.judge.Tie as tie
 
-read-property-requires : tie.Need-read-property-requires
-read-property-requires c κs = search needs
-
-refusal-requires : tie.Need-refusal-requires
-refusal-requires c κs = search needs
-
 returns : tie.Need-returns
 returns c =
     let a = c .before .before .before .before .before .args in
@@ -23,9 +17,6 @@ form-bytes-requires c κs =
     let a = c .before .before .before .before .before .args in
     let read = c .before .before .read-property in
     taken-few (now (a .property)) (now (a .trace)) (read .result) (read .ensures) (c .before .if1 .left)
-
-refusal-requires-2 : tie.Need-refusal-requires-2
-refusal-requires-2 c κs = search needs
 
 returns-2 : tie.Need-returns-2
 returns-2 c =
@@ -53,11 +44,11 @@ pub judge-spec : {M : Type 1} → statement M
 judge-spec =
     tie.close
     (tie.spec
-    read-property-requires
-    refusal-requires
+    (λ c κs. search needs)
+    (λ c κs. search needs)
     returns
     form-bytes-requires
-    refusal-requires-2
+    (λ c κs. search needs)
     returns-2
     trace-verdict-requires
     returns-3)

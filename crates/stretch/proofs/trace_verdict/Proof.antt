@@ -39,36 +39,12 @@ means k =
     let b = began f in
     fresh-means (b .args .p) (b .pre) (f .fresh .result) (f .fresh .ensures) (rows k .rows-of .result) (rows k .rows-of .ensures .0)
 
-table-requires : tie.Need-table-requires
-table-requires c κs = search needs
-
-fresh-requires : tie.Need-fresh-requires
-fresh-requires c κs = search needs
-
-rows-of-requires : tie.Need-rows-of-requires
-rows-of-requires c κs = search needs
-
-slice-aggregate-records : tie.Need-slice-aggregate-records
-slice-aggregate-records c = search needs
-
 records-requires : tie.Need-records-requires
 records-requires c κs =
     let k = c .before .before in
     let f = made k in
     let b = began f in
     (fresh-ready (b .args .p) (b .pre) (f .fresh .result) (f .fresh .ensures) (k .rows-of .result) (k .rows-of .ensures .0) (k .rows-of .ensures .2), f .before .table .ensures)
-
-enum-told : tie.Need-enum-told
-enum-told c = search needs
-
-refusal-requires : tie.Need-refusal-requires
-refusal-requires c κs = search needs
-
-enum-told-2 : tie.Need-enum-told-2
-enum-told-2 c = search needs
-
-refusal-requires-2 : tie.Need-refusal-requires-2
-refusal-requires-2 c κs = search needs
 
 returns : tie.Need-returns
 returns c =
@@ -78,17 +54,8 @@ returns c =
     c .refusal2 .ensures
     ∙ sym (judged-behind (entry k .args .p) (entry k .args .trace .now) (record-in (lent k)) (means k) _ (k .records .ensures .walked) (m .enum-told2 .given .1) (t .if1 .taken))
 
-slice-aggregate-verdict-of : tie.Need-slice-aggregate-verdict-of
-slice-aggregate-verdict-of c = search needs
-
 verdict-of-requires : tie.Need-verdict-of-requires
 verdict-of-requires c κs = let e = c .before in let told = e .before .before in walked (told .before .before) .records .ensures .ready
-
-enum-known-stop : tie.Need-enum-known-stop
-enum-known-stop c = search needs
-
-refusal-requires-3 : tie.Need-refusal-requires-3
-refusal-requires-3 c κs = search needs
 
 returns-2 : tie.Need-returns-2
 returns-2 c =
@@ -116,20 +83,20 @@ pub trace-verdict-spec : {M : Type 1} → statement M
 trace-verdict-spec =
     tie.close
     (tie.spec
-    table-requires
-    fresh-requires
-    rows-of-requires
-    slice-aggregate-records
+    (λ c κs. search needs)
+    (λ c κs. search needs)
+    (λ c κs. search needs)
+    (λ c. search needs)
     records-requires
-    enum-told
-    refusal-requires
-    enum-told-2
-    refusal-requires-2
+    (λ c. search needs)
+    (λ c κs. search needs)
+    (λ c. search needs)
+    (λ c κs. search needs)
     returns
-    slice-aggregate-verdict-of
+    (λ c. search needs)
     verdict-of-requires
-    enum-known-stop
-    refusal-requires-3
+    (λ c. search needs)
+    (λ c κs. search needs)
     returns-2
     returns-3
     returns-4)

@@ -15,12 +15,6 @@ entry b = memory (b .args .p) (b .args .rows .now) (b .args .status)
 returns : tie.Need-returns
 returns c = let b = c .before .before in standing-blind (entry b) (b .pre) (c .if1 .taken)
 
-verdict-requires : tie.Need-verdict-requires
-verdict-requires c κs = search needs
-
-cast-result : tie.Need-cast-result
-cast-result c = search needs
-
 returns-2 : tie.Need-returns-2
 returns-2 c =
     let e = c .before in
@@ -29,4 +23,4 @@ returns-2 c =
     ∙ standing-open (entry b) (b .pre) (e .if1 .left)
 
 pub verdict-of-spec : {M : Type 1} → statement M
-verdict-of-spec = tie.close (tie.spec returns verdict-requires cast-result returns-2)
+verdict-of-spec = tie.close (tie.spec returns (λ c κs. search needs) (λ c. search needs) returns-2)

@@ -24,30 +24,6 @@ first c = c .before .before
 abbrev turn : tie.After-same Inv-loop μ-loop → tie.At-loop Inv-loop μ-loop
 turn c = first (third c) .before .before
 
-loop-holds : tie.Need-loop-holds Inv-loop μ-loop
-loop-holds c = search needs
-
-sub-i : tie.Need-sub-i Inv-loop μ-loop
-sub-i c = search needs
-
-sub-l : tie.Need-sub-l Inv-loop μ-loop
-sub-l c = search needs
-
-element-copy-out-same : tie.Need-element-copy-out-same Inv-loop μ-loop
-element-copy-out-same c = search needs
-
-element-copy-out-same-2 : tie.Need-element-copy-out-same-2 Inv-loop μ-loop
-element-copy-out-same-2 c = search needs
-
-element-copy-out-same-3 : tie.Need-element-copy-out-same-3 Inv-loop μ-loop
-element-copy-out-same-3 c = search needs
-
-element-copy-out-same-4 : tie.Need-element-copy-out-same-4 Inv-loop μ-loop
-element-copy-out-same-4 c = search needs
-
-same-requires : tie.Need-same-requires Inv-loop μ-loop
-same-requires c κs = search needs
-
 returns : tie.Need-returns Inv-loop μ-loop
 returns c =
     let s = c .before .same in
@@ -55,9 +31,6 @@ returns c =
     let w = turn (c .before) .loop in
     ends-mismatch (action-at (a .outputs .now) (a .numbers .now)) (w .i) (w .l) (search needs) (w .inv .0) (s .result) (s .ensures) (c .if1 .taken)
     ∙ sym (w .inv .2)
-
-loop-less : tie.Need-loop-less Inv-loop μ-loop
-loop-less c = search needs
 
 loop-again : tie.Need-loop-again Inv-loop μ-loop
 loop-again c =
@@ -82,15 +55,15 @@ ends-spec =
     (tie.spec
     Inv-loop
     μ-loop
-    loop-holds
-    sub-i
-    sub-l
-    element-copy-out-same
-    element-copy-out-same-2
-    element-copy-out-same-3
-    element-copy-out-same-4
-    same-requires
+    (λ c. search needs)
+    (λ c. search needs)
+    (λ c. search needs)
+    (λ c. search needs)
+    (λ c. search needs)
+    (λ c. search needs)
+    (λ c. search needs)
+    (λ c κs. search needs)
     returns
-    loop-less
+    (λ c. search needs)
     loop-again
     returns-2)

@@ -25,15 +25,6 @@ fall-shorter c = start (c .before) .pre .1 .0 (start (c .before) .args .k) (omeg
 abbrev looked-up : tie.After-result → tie.Else2
 looked-up c = c .before .before
 
-next-is-requires : tie.Need-next-is-requires
-next-is-requires c κs = search needs
-
-add-result : tie.Need-add-result
-add-result c = search needs
-
-cast-result : tie.Need-cast-result
-cast-result c = search needs
-
 returns : tie.Need-returns
 returns c =
     let a = c .before .before .args in
@@ -46,9 +37,6 @@ returns-2 c =
     let a = start b .args in
     entry-none (action-at (a .outputs .now) (a .numbers .now)) (a .n) (action-of (a .output) (a .action)) (a .k)
     (sym (b .before .next-is .ensures) ∙ b .if1 .left) (c .if2 .taken)
-
-element-copy-out-f : tie.Need-element-copy-out-f
-element-copy-out-f c = search needs
 
 cast-f : tie.Need-cast-f
 cast-f c = record { fits = omega (arith, fall-shorter (c .before) .less) }
@@ -72,12 +60,12 @@ pub entry-spec : {M : Type 1} → statement M
 entry-spec =
     tie.close
     (tie.spec
-    next-is-requires
-    add-result
-    cast-result
+    (λ c κs. search needs)
+    (λ c. search needs)
+    (λ c. search needs)
     returns
     returns-2
-    element-copy-out-f
+    (λ c. search needs)
     cast-f
     add-result-2
     element-copy-out-result

@@ -42,9 +42,6 @@ entry-at c k =
 abbrev turn : tie.After-entry-arg Inv-loop μ-loop → tie.At-loop Inv-loop μ-loop
 turn c = c .before .before
 
-row-requires : tie.Need-row-requires Inv-loop μ-loop
-row-requires c κs = search needs
-
 loop-holds : tie.Need-loop-holds Inv-loop μ-loop
 loop-holds c =
     let g = entries (c .before) in
@@ -65,12 +62,6 @@ add-table c = record { fits = omega (arith, at-le (turn (c .before))) }
 
 element-write-table : tie.Need-element-write-table Inv-loop μ-loop
 element-write-table c = omega (arith, at-le (turn (c .before)))
-
-add-k : tie.Need-add-k Inv-loop μ-loop
-add-k c = search needs
-
-loop-less : tie.Need-loop-less Inv-loop μ-loop
-loop-less c = search needs
 
 loop-again : tie.Need-loop-again Inv-loop μ-loop
 loop-again c =
@@ -106,12 +97,12 @@ fill-row-spec =
     (tie.spec
     Inv-loop
     μ-loop
-    row-requires
+    (λ c κs. search needs)
     loop-holds
     entry-requires
     add-table
     element-write-table
-    add-k
-    loop-less
+    (λ c. search needs)
+    (λ c. search needs)
     loop-again
     returns)

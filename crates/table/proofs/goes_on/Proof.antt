@@ -13,18 +13,6 @@ read c = c .before .before
 abbrev within : tie.After-same → tie.Then1
 within c = read c .before
 
-element-copy-out-same : tie.Need-element-copy-out-same
-element-copy-out-same c = search needs
-
-element-copy-out-same-2 : tie.Need-element-copy-out-same-2
-element-copy-out-same-2 c = search needs
-
-same-requires : tie.Need-same-requires
-same-requires c κs = search needs
-
-ends-requires : tie.Need-ends-requires
-ends-requires c κs = search needs
-
 returns : tie.Need-returns
 returns c =
     let b = c .before .before in
@@ -47,11 +35,4 @@ returns-3 c =
 pub goes-on-spec : {M : Type 1} → statement M
 goes-on-spec =
     tie.close
-    (tie.spec
-    element-copy-out-same
-    element-copy-out-same-2
-    same-requires
-    ends-requires
-    returns
-    returns-2
-    returns-3)
+    (tie.spec (λ c. search needs) (λ c. search needs) (λ c κs. search needs) (λ c κs. search needs) returns returns-2 returns-3)

@@ -14,15 +14,6 @@ read c = c .before .before
 abbrev within : tie.After-same → tie.Then1
 within c = read c .before
 
-element-copy-out-same : tie.Need-element-copy-out-same
-element-copy-out-same c = search needs
-
-element-copy-out-same-2 : tie.Need-element-copy-out-same-2
-element-copy-out-same-2 c = search needs
-
-same-requires : tie.Need-same-requires
-same-requires c κs = search needs
-
 returns : tie.Need-returns
 returns c =
     let a = within c .before .args in
@@ -37,4 +28,4 @@ returns-2 c =
 pub next-is-spec : {M : Type 1} → statement M
 next-is-spec =
     tie.close
-    (tie.spec element-copy-out-same element-copy-out-same-2 same-requires returns returns-2)
+    (tie.spec (λ c. search needs) (λ c. search needs) (λ c κs. search needs) returns returns-2)

@@ -6,14 +6,8 @@ use Rattle.table.proofs.same.Tie as tie
 returns : tie.Need-returns
 returns c = rw (c .before .if1 .taken, c .if2 .taken)
 
-returns-2 : tie.Need-returns-2
-returns-2 c = search needs
-
-returns-3 : tie.Need-returns-3
-returns-3 c = search needs
-
 returns-4 : tie.Need-returns-4
 returns-4 c = rw (c .before .if1 .left, c .if3 .left)
 
 pub same-spec : {M : Type 1} → statement M
-same-spec = tie.close (tie.spec returns returns-2 returns-3 returns-4)
+same-spec = tie.close (tie.spec returns (λ c. search needs) (λ c. search needs) returns-4)

@@ -34,36 +34,12 @@ loop-holds c = (
       subst (λ (x : ℕ). Shorter s x (getD (replicate {A = ℕ} 33 0) x 0)) (let e : 1 ≡ j = omega arith in e) (shorter-one s (a .n)),
 )
 
-element-copy-out-fall-back : tie.Need-element-copy-out-fall-back Inv-loop μ-loop
-element-copy-out-fall-back c = search needs
-
-element-copy-out-fall-back-2 : tie.Need-element-copy-out-fall-back-2 Inv-loop μ-loop
-element-copy-out-fall-back-2 c = search needs
-
-sub-fall-back : tie.Need-sub-fall-back Inv-loop μ-loop
-sub-fall-back c = search needs
-
-fall-back-requires : tie.Need-fall-back-requires Inv-loop μ-loop
-fall-back-requires c κs = search needs
-
 cast-falls : tie.Need-cast-falls Inv-loop μ-loop
 cast-falls c =
     let a = turn c .before .args in
     let k = turn c .loop .k in
     let s = action-at (a .outputs .now) (a .numbers .now) in
     record { fits = omega (arith, c .fall-back .ensures, fall-back-le s (a .n) k (k - 1) (s k)) }
-
-add-falls : tie.Need-add-falls Inv-loop μ-loop
-add-falls c = search needs
-
-array-write-falls : tie.Need-array-write-falls Inv-loop μ-loop
-array-write-falls c = search needs
-
-add-k : tie.Need-add-k Inv-loop μ-loop
-add-k c = search needs
-
-loop-less : tie.Need-loop-less Inv-loop μ-loop
-loop-less c = search needs
 
 loop-again : tie.Need-loop-again Inv-loop μ-loop
 loop-again c =
@@ -87,14 +63,14 @@ shorter-spec =
     Inv-loop
     μ-loop
     loop-holds
-    element-copy-out-fall-back
-    element-copy-out-fall-back-2
-    sub-fall-back
-    fall-back-requires
+    (λ c. search needs)
+    (λ c. search needs)
+    (λ c. search needs)
+    (λ c κs. search needs)
     cast-falls
-    add-falls
-    array-write-falls
-    add-k
-    loop-less
+    (λ c. search needs)
+    (λ c. search needs)
+    (λ c. search needs)
+    (λ c. search needs)
     loop-again
     returns)

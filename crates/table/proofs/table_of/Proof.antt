@@ -43,26 +43,14 @@ at-le c =
     let a = start b .args in
     omega (arith, c .row .ensures, row-le (getD (a .outputs .now) (b .loop .i) false) (getD (a .numbers .now) (b .loop .i) 0))
 
-shorter-requires : tie.Need-shorter-requires Inv-loop μ-loop
-shorter-requires c κs = search needs
-
 loop-holds : tie.Need-loop-holds Inv-loop μ-loop
 loop-holds c =
     let a = c .before .args in
     let pre = c .before .pre .0 in
     (omega arith, making-none (a .outputs .now) (a .numbers .now) (a .n) (pre .0) (a .table .now) (pre .1) (pre .2))
 
-element-copy-out-output : tie.Need-element-copy-out-output Inv-loop μ-loop
-element-copy-out-output c = search needs
-
-element-copy-out-action : tie.Need-element-copy-out-action Inv-loop μ-loop
-element-copy-out-action c = search needs
-
 cast-row : tie.Need-cast-row Inv-loop μ-loop
 cast-row c = record { fits = omega (arith, named (turn c) (omega arith)) }
-
-row-requires : tie.Need-row-requires Inv-loop μ-loop
-row-requires c κs = search needs
 
 add-if1 : tie.Need-add-if1 Inv-loop μ-loop
 add-if1 c = record { fits = omega (arith, at-le c) }
@@ -74,12 +62,6 @@ fill-row-requires : tie.Need-fill-row-requires Inv-loop μ-loop
 fill-row-requires c κs =
     let b = turn (tested (filling c) .before) in
     ((omega arith, b .loop .inv .1 .long), b .before .shorter .ensures)
-
-add-i : tie.Need-add-i Inv-loop μ-loop
-add-i c = search needs
-
-loop-less : tie.Need-loop-less Inv-loop μ-loop
-loop-less c = search needs
 
 loop-again : tie.Need-loop-again Inv-loop μ-loop
 loop-again c =
@@ -112,16 +94,16 @@ table-of-spec =
     (tie.spec
     Inv-loop
     μ-loop
-    shorter-requires
+    (λ c κs. search needs)
     loop-holds
-    element-copy-out-output
-    element-copy-out-action
+    (λ c. search needs)
+    (λ c. search needs)
     cast-row
-    row-requires
+    (λ c κs. search needs)
     add-if1
     element-copy-out-if1
     fill-row-requires
-    add-i
-    loop-less
+    (λ c. search needs)
+    (λ c. search needs)
     loop-again
     returns)

@@ -4,11 +4,8 @@ use native.Mathlib.Omega.{arith}
 use Rattle.tap_form.proofs.less.Statement.{statement}
 use Rattle.tap_form.proofs.less.Tie as tie
 
-wrapping-sub-u32-requires : tie.Need-wrapping-sub-u32-requires
-wrapping-sub-u32-requires c κs = search needs
-
 returns : tie.Need-returns
 returns c = omega (arith, c .wrapping-sub-u32 .ensures)
 
 pub less-spec : {M : Type 1} → statement M
-less-spec = tie.close (tie.spec wrapping-sub-u32-requires returns)
+less-spec = tie.close (tie.spec (λ c κs. search needs) returns)

@@ -10,15 +10,6 @@ use Rattle.tap_form.proofs.read_tap.Tie as tie
 returns : tie.Need-returns
 returns c = tap-read-short (now (c .before .before .args .s)) _ (omega arith)
 
-kind-field-requires : tie.Need-kind-field-requires
-kind-field-requires c κs = search needs
-
-action-field-requires : tie.Need-action-field-requires
-action-field-requires c κs = search needs
-
-counter-field-requires : tie.Need-counter-field-requires
-counter-field-requires c κs = search needs
-
 tap-of-requires : tie.Need-tap-of-requires
 tap-of-requires c κs = is-field-lt _ _ 2 (c .before .before .kind-field .ensures)
 
@@ -30,10 +21,4 @@ returns-2 c =
 pub read-tap-spec : {M : Type 1} → statement M
 read-tap-spec =
     tie.close
-    (tie.spec
-    returns
-    kind-field-requires
-    action-field-requires
-    counter-field-requires
-    tap-of-requires
-    returns-2)
+    (tie.spec returns (λ c κs. search needs) (λ c κs. search needs) (λ c κs. search needs) tap-of-requires returns-2)

@@ -10,21 +10,6 @@ returns : tie.Need-returns
 unfolding case-by
 returns c = sym (ap case-of (gap-refused _ _ _ _ (c .before .match .keys1) (c .if1 .taken)))
 
-time-since-requires : tie.Need-time-since-requires
-time-since-requires c κs = search needs
-
-record-of-requires : tie.Need-record-of-requires
-record-of-requires c κs = search needs
-
-record-of-requires-2 : tie.Need-record-of-requires-2
-record-of-requires-2 c κs = search needs
-
-time-since-requires-2 : tie.Need-time-since-requires-2
-time-since-requires-2 c κs = search needs
-
-record-of-requires-3 : tie.Need-record-of-requires-3
-record-of-requires-3 c κs = search needs
-
 returns-2 : tie.Need-returns-2
 returns-2 c =
     let e = c .before .before in
@@ -43,11 +28,11 @@ tap-of-spec =
     tie.close
     (tie.spec
     returns
-    time-since-requires
-    record-of-requires
-    record-of-requires-2
-    time-since-requires-2
-    record-of-requires-3
+    (λ c κs. search needs)
+    (λ c κs. search needs)
+    (λ c κs. search needs)
+    (λ c κs. search needs)
+    (λ c κs. search needs)
     returns-2
     returns-3
     returns-4)

@@ -26,20 +26,11 @@ number c = ap (λ (a : RecordAnswer). a .refusal) (c .before .read-tap .ensures 
 none-refused : (c : tie.Then1) → tap-refusal (now (S (c .before))) (c .before .before .before .before .args .before) ≡ 0
 none-refused c = sym (number (c .before)) ∙ eqb-true _ 0 (sym (c .before .is-taken .ensures) ∙ c .if1 .taken)
 
-read-tap-requires : tie.Need-read-tap-requires
-read-tap-requires c κs = search needs
-
-is-taken-requires : tie.Need-is-taken-requires
-is-taken-requires c κs = search needs
-
 sub-result : tie.Need-sub-result
 sub-result c = omega (arith, tap-is-taken _ _ (none-refused c) .size)
 
 part-result-start : tie.Need-part-result-start
 part-result-start c = omega (arith, tap-is-taken _ _ (none-refused c) .size)
-
-part-result-end : tie.Need-part-result-end
-part-result-end c = search needs
 
 returns : tie.Need-returns
 returns c = rest-part 5 _ _ _ (tap-size-taken _ _ (none-refused (c .before))) refl (omega arith) refl
@@ -53,11 +44,4 @@ returns-2 c =
 pub tap-rest-spec : {M : Type 1} → statement M
 tap-rest-spec =
     tie.close
-    (tie.spec
-    read-tap-requires
-    is-taken-requires
-    sub-result
-    part-result-start
-    part-result-end
-    returns
-    returns-2)
+    (tie.spec (λ c κs. search needs) (λ c κs. search needs) sub-result part-result-start (λ c. search needs) returns returns-2)

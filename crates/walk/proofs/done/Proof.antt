@@ -10,30 +10,6 @@ use Rattle.walk.proofs.done.Tie as tie
 returns : tie.Need-returns
 returns c = sym (unless-kept _ _ _ (c .if1 .taken))
 
-enum-told : tie.Need-enum-told
-enum-told c = search needs
-
-took-requires : tie.Need-took-requires
-took-requires c κs = search needs
-
-enum-told-2 : tie.Need-enum-told-2
-enum-told-2 c = search needs
-
-took-requires-2 : tie.Need-took-requires-2
-took-requires-2 c κs = search needs
-
-enum-known-read : tie.Need-enum-known-read
-enum-known-read c = search needs
-
-took-requires-3 : tie.Need-took-requires-3
-took-requires-3 c κs = search needs
-
-enum-told-3 : tie.Need-enum-told-3
-enum-told-3 c = search needs
-
-enum-known-read-2 : tie.Need-enum-known-read-2
-enum-known-read-2 c = search needs
-
 returns-2 : tie.Need-returns-2
 returns-2 c = let arm = c .before in kind-known (kind-turn _) _ (arm .before .before .if1 .left) (arm .enum-told .given .1) (c .took .ensures)
 
@@ -54,14 +30,14 @@ done-spec =
     tie.close
     (tie.spec
     returns
-    enum-told
-    took-requires
-    enum-told-2
-    took-requires-2
-    enum-known-read
-    took-requires-3
-    enum-told-3
-    enum-known-read-2
+    (λ c. search needs)
+    (λ c κs. search needs)
+    (λ c. search needs)
+    (λ c κs. search needs)
+    (λ c. search needs)
+    (λ c κs. search needs)
+    (λ c. search needs)
+    (λ c. search needs)
     returns-2
     returns-3
     returns-4

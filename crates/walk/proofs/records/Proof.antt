@@ -81,22 +81,10 @@ sub-read-record c = omega (arith, c .before .before .loop .inv .0 .inside)
 part-read-record-start : tie.Need-part-read-record-start Inv-loop μ-loop
 part-read-record-start c = omega (arith, c .before .before .loop .inv .0 .inside)
 
-part-read-record-end : tie.Need-part-read-record-end Inv-loop μ-loop
-part-read-record-end c = search needs
-
-read-record-requires : tie.Need-read-record-requires Inv-loop μ-loop
-read-record-requires c κs = search needs
-
 take-requires : tie.Need-take-requires Inv-loop μ-loop
 take-requires c κs =
     let w = clocked (c .before) .before .before in
     (w .loop .inv .0 .ready, entered w .pre .1)
-
-done-requires : tie.Need-done-requires Inv-loop μ-loop
-done-requires c κs = search needs
-
-enum-told : tie.Need-enum-told Inv-loop μ-loop
-enum-told c = search needs
 
 add-at : tie.Need-add-at Inv-loop μ-loop
 add-at c =
@@ -117,18 +105,12 @@ loop-again c =
     let w = turn k .before .loop in
     (going-took (w .inv .0) _ _ (turn k .loop-test .taken) (turned k (c .enum-told .given .1)), tall k)
 
-enum-told-2 : tie.Need-enum-told-2 Inv-loop μ-loop
-enum-told-2 c = search needs
-
 add-gone : tie.Need-add-gone Inv-loop μ-loop
 add-gone c =
     let k = c .before .before in
     let w = turn k .before .loop in
     let h = going-ended (w .inv .0) _ _ (turn k .loop-test .taken) (turned k (c .enum-told2 .given .1)) in
     omega (arith, h .within, entry k .good .1 .1 .1 .1 .0)
-
-gone-requires : tie.Need-gone-requires Inv-loop μ-loop
-gone-requires c κs = search needs
 
 same-length : tie.Need-same-length Inv-loop μ-loop
 same-length c = let arm = c .before in tall (arm .before .before)
@@ -141,12 +123,6 @@ returns c =
     as-gone (given k) (c .gone .ensures)
     (going-ended (w .inv .0) _ _ (turn k .loop-test .taken) (turned k (arm .enum-told2 .given .1)))
 
-enum-known-did : tie.Need-enum-known-did Inv-loop μ-loop
-enum-known-did c = search needs
-
-gone-requires-2 : tie.Need-gone-requires-2 Inv-loop μ-loop
-gone-requires-2 c κs = search needs
-
 same-length-2 : tie.Need-same-length-2 Inv-loop μ-loop
 same-length-2 c = let arm = c .before .before in tall (arm .before .before)
 
@@ -157,12 +133,6 @@ returns-2 c =
     let w = turn k .before .loop in
     as-gone (given k) (c .gone2 .ensures)
     (going-refused (w .inv .0) _ _ _ (turn k .loop-test .taken) (turned k (arm .did .given .1)))
-
-gone-requires-3 : tie.Need-gone-requires-3 Inv-loop μ-loop
-gone-requires-3 c κs = search needs
-
-same-length-3 : tie.Need-same-length-3 Inv-loop μ-loop
-same-length-3 c = search needs
 
 returns-3 : tie.Need-returns-3 Inv-loop μ-loop
 returns-3 c =
@@ -178,24 +148,24 @@ records-spec =
     loop-holds
     sub-read-record
     part-read-record-start
-    part-read-record-end
-    read-record-requires
+    (λ c. search needs)
+    (λ c κs. search needs)
     take-requires
-    done-requires
-    enum-told
+    (λ c κs. search needs)
+    (λ c. search needs)
     add-at
     add-taken
     loop-less
     loop-again
-    enum-told-2
+    (λ c. search needs)
     add-gone
-    gone-requires
+    (λ c κs. search needs)
     same-length
     returns
-    enum-known-did
-    gone-requires-2
+    (λ c. search needs)
+    (λ c κs. search needs)
     same-length-2
     returns-2
-    gone-requires-3
-    same-length-3
+    (λ c κs. search needs)
+    (λ c. search needs)
     returns-3)

@@ -1,11 +1,10 @@
 -- `walk::walk` meets its contract: refusal 10, or the records on its rows.
 use Prim.Native.Nat.{ℕ}
-use mathlib.Core.Path.{_≡_, sym, ap₂, subst, _∙_}
+use mathlib.Core.Path.{_≡_, sym, ap₂, _∙_}
 use mathlib.Core.Bool.{false}
 use mathlib.Core.List.{List}
-use Rattle.rows.specs.Rows.{Room}
 use Rattle.session_record.specs.declared.Session.{Session}
-use Rattle.session_record.specs.Record.{span-of, out-of-range}
+use Rattle.session_record.specs.Record.{out-of-range}
 use Rattle.session_record.specs.Lent.{memory, record-in, tidied, Ready}
 use Rattle.session_record.proofs.Range.{ranged}
 use Rattle.session_record.proofs.Ready.{lent-ready}
@@ -70,9 +69,6 @@ walked j =
     (sym (k .limited .ensures)) (sym (lent k .rows-of .ensures .0))
     ∙ j .records .ensures .walked
 
-unfit-requires : tie.Need-unfit-requires
-unfit-requires c κs = search needs
-
 returns : tie.Need-returns
 returns c =
     let a = entered (c .before) .args in
@@ -80,15 +76,6 @@ returns c =
 
 table-requires : tie.Need-table-requires
 table-requires c κs = let e = c .before .before in ranged (given e) (fit e) .formed
-
-rows-of-requires : tie.Need-rows-of-requires
-rows-of-requires c κs = search needs
-
-slice-aggregate-records : tie.Need-slice-aggregate-records
-slice-aggregate-records c = search needs
-
-limited-requires : tie.Need-limited-requires
-limited-requires c κs = search needs
 
 records-requires : tie.Need-records-requires
 records-requires c κs = (ready c, lent c .before .table .ensures)
@@ -98,12 +85,6 @@ unfolding last-lost
 returns-2 c =
     let j = back (c .before) in
     none-taken (s (j .before)) (fit (passed (j .before))) (bytes (j .before)) (budget (j .before)) (gone j) (walked j) (c .if2 .taken)
-
-slice-aggregate-made : tie.Need-slice-aggregate-made
-slice-aggregate-made c = search needs
-
-made-requires : tie.Need-made-requires
-made-requires c κs = search needs
 
 returns-3 : tie.Need-returns-3
 returns-3 c =
@@ -119,14 +100,14 @@ pub walk-spec : {M : Type 1} → statement M
 walk-spec =
     tie.close
     (tie.spec
-    unfit-requires
+    (λ c κs. search needs)
     returns
     table-requires
-    rows-of-requires
-    slice-aggregate-records
-    limited-requires
+    (λ c κs. search needs)
+    (λ c. search needs)
+    (λ c κs. search needs)
     records-requires
     returns-2
-    slice-aggregate-made
-    made-requires
+    (λ c. search needs)
+    (λ c κs. search needs)
     returns-3)

@@ -16,18 +16,9 @@ returns c =
     let s = now (c .before .args .trace) in
     rest-part 0 _ _ _ (simp (lt-ltb _ _ (c .if1 .taken))) refl (omega arith) (sym (take-all (length s - 0) s (omega arith)))
 
-sub-result : tie.Need-sub-result
-sub-result c = search needs
-
-part-result-start : tie.Need-part-result-start
-part-result-start c = search needs
-
-part-result-end : tie.Need-part-result-end
-part-result-end c = search needs
-
 returns-2 : tie.Need-returns-2
 returns-2 c = rest-part (c .before .before .args .read) _ _ _ (simp (le-ltb _ _ (c .before .if1 .left))) refl (omega arith) refl
 
 pub walk-rest-spec : {M : Type 1} → statement M
 walk-rest-spec =
-    tie.close (tie.spec returns sub-result part-result-start part-result-end returns-2)
+    tie.close (tie.spec returns (λ c. search needs) (λ c. search needs) (λ c. search needs) returns-2)

@@ -59,29 +59,17 @@ so j =
     j .judge .ensures
     ∙ ap (λ (c : Cut). judged (b .args .p) (run b) (record { input = 0; output = 0; cut = c }) (length (b .args .stamp .now)) .told) (j .before .before .start .ensures)
 
-refused-requires : tie.Need-refused-requires
-refused-requires c κs = search needs
-
-refused-requires-2 : tie.Need-refused-requires-2
-refused-requires-2 c κs = search needs
-
 returns : tie.Need-returns
 returns c =
     let a = c .before .before in
     let b = entry a in
     by-property (b .args .p) (run b) (one b) (two b) (a .refused .result) (a .refused .ensures) (c .before .if1 .taken) _ (c .refused2 .ensures)
 
-refused-requires-3 : tie.Need-refused-requires-3
-refused-requires-3 c κs = search needs
-
 returns-2 : tie.Need-returns-2
 returns-2 c =
     let e = c .before .before in
     let b = entry (e .before) in
     by-output (b .args .p) (run b) (one b) (two b) (good e) (c .before .if2 .taken) _ (c .refused3 .ensures)
-
-refused-requires-4 : tie.Need-refused-requires-4
-refused-requires-4 c κs = search needs
 
 returns-3 : tie.Need-returns-3
 returns-3 c =
@@ -91,9 +79,6 @@ returns-3 c =
 
 table-requires : tie.Need-table-requires
 table-requires c κs = good (c .before .before)
-
-start-requires : tie.Need-start-requires
-start-requires c κs = search needs
 
 judge-requires : tie.Need-judge-requires
 judge-requires c κs =
@@ -109,18 +94,12 @@ returns-4 c =
     by-lines (b .args .p) (run b) (one b) (two b) (good-of j) (even-o j) (even-a j) _ (so j)
     (c .if4 .taken)
 
-refused-requires-5 : tie.Need-refused-requires-5
-refused-requires-5 c κs = search needs
-
 returns-5 : tie.Need-returns-5
 returns-5 c =
     let j = c .before .before .before .before in
     let b = entry (answered j) in
     by-many (b .args .p) (run b) (one b) (two b) (good-of j) (even-o j) (even-a j) _ (so j)
     (c .before .before .if4 .left) (c .before .if5 .taken) _ (c .refused5 .ensures)
-
-refused-requires-6 : tie.Need-refused-requires-6
-refused-requires-6 c κs = search needs
 
 returns-6 : tie.Need-returns-6
 returns-6 c =
@@ -130,9 +109,6 @@ returns-6 c =
     (c .before .before .before .if4 .left) (c .before .before .if5 .left)
     (or-left (shorter (two b) (length (b .args .stamp .now))) (or-left (ltb (length (b .args .moments .now)) (length (b .args .stamp .now))) (lt-ltb _ _ (c .before .if6 .taken)))) _ (c .refused6 .ensures)
 
-refused-requires-7 : tie.Need-refused-requires-7
-refused-requires-7 c κs = search needs
-
 returns-7 : tie.Need-returns-7
 returns-7 c =
     let j = c .before .before .before .before .before .before in
@@ -141,9 +117,6 @@ returns-7 c =
     (c .before .before .before .before .if4 .left) (c .before .before .before .if5 .left)
     (or-left (shorter (two b) (length (b .args .stamp .now))) (or-right (ltb (length (b .args .numbers .now)) (length (b .args .stamp .now))) (lt-ltb _ _ (c .before .if7 .taken)))) _ (c .refused7 .ensures)
 
-refused-requires-8 : tie.Need-refused-requires-8
-refused-requires-8 c κs = search needs
-
 returns-8 : tie.Need-returns-8
 returns-8 c =
     let j = c .before .before .before .before .before .before .before in
@@ -151,9 +124,6 @@ returns-8 c =
     by-short (b .args .p) (run b) (one b) (two b) (good-of j) (even-o j) (even-a j) _ (so j)
     (c .before .before .before .before .before .if4 .left) (c .before .before .before .before .if5 .left)
     (or-right (shorter (one b) (length (b .args .stamp .now))) (or-left (ltb (length (b .args .moments2 .now)) (length (b .args .stamp .now))) (lt-ltb _ _ (c .before .if8 .taken)))) _ (c .refused8 .ensures)
-
-refused-requires-9 : tie.Need-refused-requires-9
-refused-requires-9 c κs = search needs
 
 returns-9 : tie.Need-returns-9
 returns-9 c =
@@ -204,18 +174,6 @@ write-requires-2 c κs =
     let j = judgement w in
     ((good-of j, j .before .before .before .table .ensures, found w false), (fits-in w .before .if8 .left, fits-in w .if9 .left))
 
-same-length : tie.Need-same-length
-same-length c = search needs
-
-same-length-2 : tie.Need-same-length-2
-same-length-2 c = search needs
-
-same-length-3 : tie.Need-same-length-3
-same-length-3 c = search needs
-
-same-length-4 : tie.Need-same-length-4
-same-length-4 c = search needs
-
 returns-10 : tie.Need-returns-10
 returns-10 c =
     let u = c .before .before .before .before .before .before .before .before .before .before .before .before in
@@ -228,12 +186,6 @@ returns-10 c =
     (answer-suspect (b .args .p) (good-of j) (run b) (sized w) (all-taken w) _ (so j) (one b) (two b) _ _ (f .before .before .before .if6 .left) (f .before .before .if7 .left)
     (c .before .before .before .before .before .before .before .if10 .taken)
     (u .write .ensures) (f .before .if8 .left) (f .if9 .left) (c .before .before .before .write2 .ensures))
-
-same-length-5 : tie.Need-same-length-5
-same-length-5 c = search needs
-
-same-length-6 : tie.Need-same-length-6
-same-length-6 c = search needs
 
 returns-11 : tie.Need-returns-11
 returns-11 c =
@@ -251,34 +203,34 @@ pub explain-spec : {M : Type 1} → statement M
 explain-spec =
     tie.close
     (tie.spec
-    refused-requires
-    refused-requires-2
+    (λ c κs. search needs)
+    (λ c κs. search needs)
     returns
-    refused-requires-3
+    (λ c κs. search needs)
     returns-2
-    refused-requires-4
+    (λ c κs. search needs)
     returns-3
     table-requires
-    start-requires
+    (λ c κs. search needs)
     judge-requires
     returns-4
-    refused-requires-5
+    (λ c κs. search needs)
     returns-5
-    refused-requires-6
+    (λ c κs. search needs)
     returns-6
-    refused-requires-7
+    (λ c κs. search needs)
     returns-7
-    refused-requires-8
+    (λ c κs. search needs)
     returns-8
-    refused-requires-9
+    (λ c κs. search needs)
     returns-9
     write-requires
     write-requires-2
-    same-length
-    same-length-2
-    same-length-3
-    same-length-4
+    (λ c. search needs)
+    (λ c. search needs)
+    (λ c. search needs)
+    (λ c. search needs)
     returns-10
-    same-length-5
-    same-length-6
+    (λ c. search needs)
+    (λ c. search needs)
     returns-11)

@@ -34,60 +34,15 @@ goes-on n line e =
     let number = n .wrapping-add-u64 .ensures in
     λ i. record { text = (e ∙ ap (λ (k : ℕ). text-of (line k)) number) i; status = entry n .args .status; count = number i; more = true }
 
-stop-requires : tie.Need-stop-requires
-stop-requires c κs = search needs
-
-last-requires : tie.Need-last-requires
-last-requires c κs = search needs
-
 returns : tie.Need-returns
 returns c =
     let refused = c .before .before in
     ends (refused .before .before) _ (c .last .ensures) (c .before .stop .ensures) ∙ sym (unless-kept _ _ _ (refused .if1 .taken))
 
-wrapping-add-u64-requires : tie.Need-wrapping-add-u64-requires
-wrapping-add-u64-requires c κs = search needs
-
-enum-known-read : tie.Need-enum-known-read
-enum-known-read c = search needs
-
-line-requires : tie.Need-line-requires
-line-requires c κs = search needs
-
-enum-known-read-2 : tie.Need-enum-known-read-2
-enum-known-read-2 c = search needs
-
-line-requires-2 : tie.Need-line-requires-2
-line-requires-2 c κs = search needs
-
-enum-known-read-3 : tie.Need-enum-known-read-3
-enum-known-read-3 c = search needs
-
-line-requires-3 : tie.Need-line-requires-3
-line-requires-3 c κs = search needs
-
-enum-told : tie.Need-enum-told
-enum-told c = search needs
-
-end-requires : tie.Need-end-requires
-end-requires c κs = search needs
-
-last-requires-2 : tie.Need-last-requires-2
-last-requires-2 c κs = search needs
-
 returns-2 : tie.Need-returns-2
 returns-2 c =
     let n = c .before .before .before .before in
     kind-known (kind-added _ _ _) _ (n .before .if1 .left) (c .before .before .enum-told .given .1) (ends (entry n) _ (c .last2 .ensures) (c .before .end .ensures))
-
-enum-known-read-4 : tie.Need-enum-known-read-4
-enum-known-read-4 c = search needs
-
-stop-requires-2 : tie.Need-stop-requires-2
-stop-requires-2 c κs = search needs
-
-last-requires-3 : tie.Need-last-requires-3
-last-requires-3 c κs = search needs
 
 returns-3 : tie.Need-returns-3
 returns-3 c =
@@ -118,23 +73,23 @@ pub adds-spec : {M : Type 1} → statement M
 adds-spec =
     tie.close
     (tie.spec
-    stop-requires
-    last-requires
+    (λ c κs. search needs)
+    (λ c κs. search needs)
     returns
-    wrapping-add-u64-requires
-    enum-known-read
-    line-requires
-    enum-known-read-2
-    line-requires-2
-    enum-known-read-3
-    line-requires-3
-    enum-told
-    end-requires
-    last-requires-2
+    (λ c κs. search needs)
+    (λ c. search needs)
+    (λ c κs. search needs)
+    (λ c. search needs)
+    (λ c κs. search needs)
+    (λ c. search needs)
+    (λ c κs. search needs)
+    (λ c. search needs)
+    (λ c κs. search needs)
+    (λ c κs. search needs)
     returns-2
-    enum-known-read-4
-    stop-requires-2
-    last-requires-3
+    (λ c. search needs)
+    (λ c κs. search needs)
+    (λ c κs. search needs)
     returns-3
     returns-4
     returns-5

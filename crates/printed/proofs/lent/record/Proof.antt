@@ -9,15 +9,6 @@ use Rattle.printed.proofs.lent.record.Tie as tie
 abbrev taken : tie.After-adds → tie.After-take
 taken c = c .before .before .before .before
 
-take-requires : tie.Need-take-requires
-take-requires c κs = search needs
-
-adds-requires : tie.Need-adds-requires
-adds-requires c κs = search needs
-
-same-length : tie.Need-same-length
-same-length c = search needs
-
 returns : tie.Need-returns
 returns c =
     let k = taken c in
@@ -27,4 +18,4 @@ returns c =
     (c .adds .result) (c .adds .ensures)
 
 pub record-spec : {M : Type 1} → statement M
-record-spec = tie.close (tie.spec take-requires adds-requires same-length returns)
+record-spec = tie.close (tie.spec (λ c κs. search needs) (λ c κs. search needs) (λ c. search needs) returns)

@@ -22,15 +22,6 @@ loop-holds : tie.Need-loop-holds Inv-loop μ-loop
 unfolding mask
 loop-holds c = (search needs, refl)
 
-add-field-at : tie.Need-add-field-at Inv-loop μ-loop
-add-field-at c = search needs
-
-field-at-requires : tie.Need-field-at-requires Inv-loop μ-loop
-field-at-requires c κs = search needs
-
-shl-m : tie.Need-shl-m Inv-loop μ-loop
-shl-m c = search needs
-
 -- what is added to the mask is the next bit, in its place
 shift : (s : List ℕ) (x i k : ℕ) → k < 64 → x ≡ field s (i + k) 1 → x * 2 ^ k % 2 ^ 64 ≡ bit s (i + k) * 2 ^ k
 shift s x i k h e =
@@ -42,12 +33,6 @@ add-m c =
     let k = c .before .before .loop .k in
     omega
     (arith, shift (a .s .now) (c .field-at .result) (a .start) k (omega arith) (c .field-at .ensures), mask-fits (bit (a .s .now)) (bit-lt (a .s .now)) (a .start) k 64 (omega arith))
-
-add-k : tie.Need-add-k Inv-loop μ-loop
-add-k c = search needs
-
-loop-less : tie.Need-loop-less Inv-loop μ-loop
-loop-less c = search needs
 
 loop-again : tie.Need-loop-again Inv-loop μ-loop
 loop-again c =
@@ -70,11 +55,11 @@ allowed-spec =
     Inv-loop
     μ-loop
     loop-holds
-    add-field-at
-    field-at-requires
-    shl-m
+    (λ c. search needs)
+    (λ c κs. search needs)
+    (λ c. search needs)
     add-m
-    add-k
-    loop-less
+    (λ c. search needs)
+    (λ c. search needs)
     loop-again
     returns)

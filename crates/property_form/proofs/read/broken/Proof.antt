@@ -38,31 +38,10 @@ returns c =
     let s = c .before .before .args .s .now in
     judged s true (pad-broken s) (lt-ltb (length s) (form-size (length-read s)) (omega arith)) refl
 
-length-of-requires : tie.Need-length-of-requires
-length-of-requires c κs = search needs
-
-size-of-requires : tie.Need-size-of-requires
-size-of-requires c κs = search needs
-
 returns-2 : tie.Need-returns-2
 returns-2 c =
     let s = c .before .before .before .before .before .args .s .now in
     judged s true (pad-broken s) (lt-ltb (length s) (form-size (length-read s)) (omega arith)) refl
-
-mul-end : tie.Need-mul-end
-mul-end c = search needs
-
-add-end : tie.Need-add-end
-add-end c = search needs
-
-mul-field-at : tie.Need-mul-field-at
-mul-field-at c = search needs
-
-sub-field-at : tie.Need-sub-field-at
-sub-field-at c = search needs
-
-field-at-requires : tie.Need-field-at-requires
-field-at-requires c κs = search needs
 
 returns-3 : tie.Need-returns-3
 returns-3 c =
@@ -81,13 +60,13 @@ broken-spec =
     tie.close
     (tie.spec
     returns
-    length-of-requires
-    size-of-requires
+    (λ c κs. search needs)
+    (λ c κs. search needs)
     returns-2
-    mul-end
-    add-end
-    mul-field-at
-    sub-field-at
-    field-at-requires
+    (λ c. search needs)
+    (λ c. search needs)
+    (λ c. search needs)
+    (λ c. search needs)
+    (λ c κs. search needs)
     returns-3
     returns-4)

@@ -25,27 +25,6 @@ fields s n e output number allowed lb ub eo en ea el eu =
     ea ∙ ap (λ (k : ℕ). mask (bit s) (58 + 7 * k) 64) e in
     λ i. record { n = e i; output = outputs i; number = numbers i; allowed = mask-read i; lb = el i; ub = eu i }
 
-outputs-requires : tie.Need-outputs-requires
-outputs-requires c κs = search needs
-
-numbers-requires : tie.Need-numbers-requires
-numbers-requires c κs = search needs
-
-mul-allowed : tie.Need-mul-allowed
-mul-allowed c = search needs
-
-add-allowed : tie.Need-add-allowed
-add-allowed c = search needs
-
-allowed-requires : tie.Need-allowed-requires
-allowed-requires c κs = search needs
-
-field-at-requires : tie.Need-field-at-requires
-field-at-requires c κs = search needs
-
-field-at-requires-2 : tie.Need-field-at-requires-2
-field-at-requires-2 c κs = search needs
-
 returns : tie.Need-returns
 unfolding property-read
 returns c =
@@ -60,11 +39,11 @@ pub fields-of-spec : {M : Type 1} → statement M
 fields-of-spec =
     tie.close
     (tie.spec
-    outputs-requires
-    numbers-requires
-    mul-allowed
-    add-allowed
-    allowed-requires
-    field-at-requires
-    field-at-requires-2
+    (λ c κs. search needs)
+    (λ c κs. search needs)
+    (λ c. search needs)
+    (λ c. search needs)
+    (λ c κs. search needs)
+    (λ c κs. search needs)
+    (λ c κs. search needs)
     returns)

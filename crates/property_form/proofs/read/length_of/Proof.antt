@@ -6,13 +6,10 @@ use borrow.Author.Needs.{needs}
 use Rattle.property_form.proofs.read.length_of.Statement.{statement}
 use Rattle.property_form.proofs.read.length_of.Tie as tie
 
-field-at-requires : tie.Need-field-at-requires
-field-at-requires c κs = search needs
-
 returns : tie.Need-returns
 returns c =
     let s = c .before .before .args .s .now in
     (c .field-at .ensures, omega (arith, number-lt (bit s) (bit-lt s) 0 6))
 
 pub length-of-spec : {M : Type 1} → statement M
-length-of-spec = tie.close (tie.spec field-at-requires returns)
+length-of-spec = tie.close (tie.spec (λ c κs. search needs) returns)

@@ -24,29 +24,11 @@ loop-holds : tie.Need-loop-holds Inv-loop μ-loop
 unfolding first
 loop-holds c = (search needs, refl)
 
-mul-field-at : tie.Need-mul-field-at Inv-loop μ-loop
-mul-field-at c = search needs
-
-add-field-at : tie.Need-add-field-at Inv-loop μ-loop
-add-field-at c = search needs
-
-field-at-requires : tie.Need-field-at-requires Inv-loop μ-loop
-field-at-requires c κs = search needs
-
 narrow-requires : tie.Need-narrow-requires Inv-loop μ-loop
 narrow-requires c κs =
     let s = c .before .before .before .before .args .s .now in
     let i = c .before .before .loop .i in
     omega (arith, number-lt (bit s) (bit-lt s) (59 + 7 * i) 6, c .field-at .ensures)
-
-array-write-number : tie.Need-array-write-number Inv-loop μ-loop
-array-write-number c = search needs
-
-add-i : tie.Need-add-i Inv-loop μ-loop
-add-i c = search needs
-
-loop-less : tie.Need-loop-less Inv-loop μ-loop
-loop-less c = search needs
 
 loop-again : tie.Need-loop-again Inv-loop μ-loop
 loop-again c =
@@ -69,12 +51,12 @@ numbers-spec =
     Inv-loop
     μ-loop
     loop-holds
-    mul-field-at
-    add-field-at
-    field-at-requires
+    (λ c. search needs)
+    (λ c. search needs)
+    (λ c κs. search needs)
     narrow-requires
-    array-write-number
-    add-i
-    loop-less
+    (λ c. search needs)
+    (λ c. search needs)
+    (λ c. search needs)
     loop-again
     returns)

@@ -4,42 +4,6 @@ use borrow.Author.Needs.{needs}
 use Rattle.property_form.proofs.write.bits_of.Statement.{statement}
 use Rattle.property_form.proofs.write.bits_of.Tie as tie
 
-slice-aggregate-put-field : tie.Need-slice-aggregate-put-field
-slice-aggregate-put-field c = search needs
-
-put-field-requires : tie.Need-put-field-requires
-put-field-requires c κs = search needs
-
-slice-aggregate-put-field-2 : tie.Need-slice-aggregate-put-field-2
-slice-aggregate-put-field-2 c = search needs
-
-put-field-requires-2 : tie.Need-put-field-requires-2
-put-field-requires-2 c κs = search needs
-
-slice-aggregate-put-field-3 : tie.Need-slice-aggregate-put-field-3
-slice-aggregate-put-field-3 c = search needs
-
-put-field-requires-3 : tie.Need-put-field-requires-3
-put-field-requires-3 c κs = search needs
-
-slice-aggregate-put-actions : tie.Need-slice-aggregate-put-actions
-slice-aggregate-put-actions c = search needs
-
-put-actions-requires : tie.Need-put-actions-requires
-put-actions-requires c κs = search needs
-
-slice-aggregate-put-allowed : tie.Need-slice-aggregate-put-allowed
-slice-aggregate-put-allowed c = search needs
-
-mul-put-allowed : tie.Need-mul-put-allowed
-mul-put-allowed c = search needs
-
-add-put-allowed : tie.Need-add-put-allowed
-add-put-allowed c = search needs
-
-put-allowed-requires : tie.Need-put-allowed-requires
-put-allowed-requires c κs = search needs
-
 returns : tie.Need-returns
 returns c =
     let five = c .before in
@@ -55,16 +19,16 @@ pub bits-of-spec : {M : Type 1} → statement M
 bits-of-spec =
     tie.close
     (tie.spec
-    slice-aggregate-put-field
-    put-field-requires
-    slice-aggregate-put-field-2
-    put-field-requires-2
-    slice-aggregate-put-field-3
-    put-field-requires-3
-    slice-aggregate-put-actions
-    put-actions-requires
-    slice-aggregate-put-allowed
-    mul-put-allowed
-    add-put-allowed
-    put-allowed-requires
+    (λ c. search needs)
+    (λ c κs. search needs)
+    (λ c. search needs)
+    (λ c κs. search needs)
+    (λ c. search needs)
+    (λ c κs. search needs)
+    (λ c. search needs)
+    (λ c κs. search needs)
+    (λ c. search needs)
+    (λ c. search needs)
+    (λ c. search needs)
+    (λ c κs. search needs)
     returns)

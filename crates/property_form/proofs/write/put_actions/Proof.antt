@@ -31,42 +31,6 @@ loop-holds : tie.Need-loop-holds Inv-loop μ-loop
 unfolding first sequence-bits
 loop-holds c = (search needs, paste-zero (c .before .args .list .now) 58 [], refl)
 
-mul-put-field : tie.Need-mul-put-field Inv-loop μ-loop
-mul-put-field c = search needs
-
-add-put-field : tie.Need-add-put-field Inv-loop μ-loop
-add-put-field c = search needs
-
-array-read-one-if : tie.Need-array-read-one-if Inv-loop μ-loop
-array-read-one-if c = search needs
-
-one-if-requires : tie.Need-one-if-requires Inv-loop μ-loop
-one-if-requires c κs = search needs
-
-put-field-requires : tie.Need-put-field-requires Inv-loop μ-loop
-put-field-requires c κs = search needs
-
-mul-put-field-2 : tie.Need-mul-put-field-2 Inv-loop μ-loop
-mul-put-field-2 c = search needs
-
-add-put-field-2 : tie.Need-add-put-field-2 Inv-loop μ-loop
-add-put-field-2 c = search needs
-
-array-read-wide : tie.Need-array-read-wide Inv-loop μ-loop
-array-read-wide c = search needs
-
-wide-requires : tie.Need-wide-requires Inv-loop μ-loop
-wide-requires c κs = search needs
-
-put-field-requires-2 : tie.Need-put-field-requires-2 Inv-loop μ-loop
-put-field-requires-2 c κs = search needs
-
-add-i : tie.Need-add-i Inv-loop μ-loop
-add-i c = search needs
-
-loop-less : tie.Need-loop-less Inv-loop μ-loop
-loop-less c = search needs
-
 loop-again : tie.Need-loop-again Inv-loop μ-loop
 loop-again c =
     let second = c .before .before in
@@ -99,18 +63,18 @@ put-actions-spec =
     Inv-loop
     μ-loop
     loop-holds
-    mul-put-field
-    add-put-field
-    array-read-one-if
-    one-if-requires
-    put-field-requires
-    mul-put-field-2
-    add-put-field-2
-    array-read-wide
-    wide-requires
-    put-field-requires-2
-    add-i
-    loop-less
+    (λ c. search needs)
+    (λ c. search needs)
+    (λ c. search needs)
+    (λ c κs. search needs)
+    (λ c κs. search needs)
+    (λ c. search needs)
+    (λ c. search needs)
+    (λ c. search needs)
+    (λ c κs. search needs)
+    (λ c κs. search needs)
+    (λ c. search needs)
+    (λ c. search needs)
     loop-again
     same-length
     returns)

@@ -24,21 +24,6 @@ loop-holds c =
     let a = c .before .args in
     (search needs, paste-zero (a .list .now) (a .start) (run (digit (a .m)) 0 64), refl)
 
-digit-of-requires : tie.Need-digit-of-requires Inv-loop μ-loop
-digit-of-requires c κs = search needs
-
-add-list : tie.Need-add-list Inv-loop μ-loop
-add-list c = search needs
-
-slice-write-list : tie.Need-slice-write-list Inv-loop μ-loop
-slice-write-list c = search needs
-
-add-k : tie.Need-add-k Inv-loop μ-loop
-add-k c = search needs
-
-loop-less : tie.Need-loop-less Inv-loop μ-loop
-loop-less c = search needs
-
 loop-again : tie.Need-loop-again Inv-loop μ-loop
 loop-again c =
     let a = c .before .before .before .before .args in
@@ -70,11 +55,11 @@ put-allowed-spec =
     Inv-loop
     μ-loop
     loop-holds
-    digit-of-requires
-    add-list
-    slice-write-list
-    add-k
-    loop-less
+    (λ c κs. search needs)
+    (λ c. search needs)
+    (λ c. search needs)
+    (λ c. search needs)
+    (λ c. search needs)
     loop-again
     same-length
     returns)
