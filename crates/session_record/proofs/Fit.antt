@@ -17,7 +17,7 @@ use Rattle.meaning.specs.Step.{Front, Cuts, lengths}
 use Rattle.meaning.proofs.Tests.{some-to-none}
 use Rattle.meaning.proofs.Refusals.{first-of-none, none-first, given-none}
 use Rattle.meaning.proofs.Calls.{not-refused-stamp, not-refused-mark}
-use Rattle.meaning.proofs.Clocks.{by-time-is, by-time-each}
+use Rattle.meaning.proofs.Clocks.{blind-if, by-time-is, by-time-each}
 use Rattle.meaning.proofs.Fronts.{few-first}
 use Rattle.meaning.proofs.InOrder.{InOrder, ended, nothing, stamp-at, order-inputs, order-next, order-within, order-first, order-with}
 use Rattle.meaning.proofs.Throughout.{Throughout, Preserved, with-throughout, fresh-throughout, none-throughout}
@@ -27,6 +27,7 @@ use Rattle.matcher.specs.Sets.{Short}
 use Rattle.matcher.proofs.Words.{fits-short, none-short, start-short, either-short, moved-short}
 use Rattle.rows.specs.declared.Span.{Span}
 use Rattle.rows.specs.Rows.{spanning, word}
+use Rattle.clock.specs.Time.{clock-of}
 use Rattle.cuts.specs.Steps.{front-after, front-fresh, front-none, fresh-by, refusal-by, taken-by, next-by}
 use Rattle.cuts.specs.Fronts.{cut-at, held-at, front-of}
 use Rattle.session_record.specs.Record.{cuts-of, record-of, out-of-range}
@@ -76,15 +77,9 @@ fresh-fit p =
 pub ranged-fit : (m : Memory) → Ranged m → Fit (m .property) (held-in m)
 ranged-fit m r = go (m .status .clock .blind) refl
   where
-    p : Property
-    p = m .property
-
-    s : Span
-    s = m .status .span
-
     go : (b : Bool) → m .status .clock .blind ≡ b
-        → Fit (m .property) (record { clock = record { latest = m .status .clock .latest; is-blind = b }; front = cond b (front-none (m .property)) (front-of (m .rows) (m .status .span) 0) })
-    go true e = blind-fit (m .property) (record { latest = m .status .clock .latest; is-blind = true }) (r .limit)
+        → Fit (m .property) (record { clock = blind-if b (clock-of (m .status .clock)); front = cond b (front-none (m .property)) (front-of (m .rows) (m .status .span) 0) })
+    go true e = blind-fit (m .property) (blind-if true (clock-of (m .status .clock))) (r .limit)
     go false e =
         record {
           few = subst (λ (n : ℕ). n ≤ most-open) (sym (length-first (held-at (m .rows) (m .status .span) 0) (m .status .span .count))) (r .few);

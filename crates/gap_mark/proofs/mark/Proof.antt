@@ -1,7 +1,7 @@
 -- `gap_mark::mark` meets its contract: refused, or the run is closed and the session blind.
 use mathlib.Core.Path.{refl, sym}
 use native.Mathlib.Omega.{arith}
-use Rattle.meaning.specs.Calls.{Call, mark-at}
+use Rattle.meaning.specs.Calls.{Mark, Call}
 use Rattle.session_record.specs.Lent.{Memory, memory}
 use Rattle.session_record.proofs.Ready.{open-usable}
 use Rattle.answers.proofs.Advances.{refused-leads, marked-blind, marked-open}
@@ -13,8 +13,11 @@ use Rattle.gap_mark.proofs.mark.Tie as tie
 abbrev entry : tie.Start → Memory
 entry b = memory (b .args .p) (b .args .rows .now) (b .args .status)
 
+abbrev given : tie.Start → Mark
+given b = record { lost = b .args .lost; stamp = b .args .stamp }
+
 abbrev call : tie.Start → Call
-call b = mark-at (b .args .lost) (b .args .stamp)
+call b = Call.mark (given b)
 
 -- from a gap mark that no refusal stops back to the entry
 abbrev entered : tie.Else1 → tie.Start
@@ -33,7 +36,7 @@ returns-2 c =
     let e = k .before in
     let b = entered e in
     let number = e .before .refused in
-    marked-blind (entry b) (b .pre) (b .args .lost) (b .args .stamp) (number .result) (number .ensures) (e .if1 .left) (k .marked .result) (k .marked .ensures (record { lost = b .args .lost; stamp = b .args .stamp }) refl)
+    marked-blind (entry b) (b .pre) (b .args .lost) (b .args .stamp) (number .result) (number .ensures) (e .if1 .left) (k .marked .result) (k .marked .ensures (given b) refl)
     (c .before .if2 .taken) (c .blinded .result) (c .blinded .ensures)
 
 returns-3 : tie.Need-returns-3
@@ -44,7 +47,8 @@ returns-3 c =
     let b = entered e in
     let number = e .before .refused in
     let v = c .before .verdict in
-    marked-open (entry b) (b .pre) (b .args .lost) (b .args .stamp) (number .result) (number .ensures) (e .if1 .left) (k .marked .result) (k .marked .ensures (record { lost = b .args .lost; stamp = b .args .stamp }) refl) (open-run .if2 .left)
+    marked-open (entry b) (b .pre) (b .args .lost) (b .args .stamp) (number .result) (number .ensures) (e .if1 .left) (k .marked .result) (k .marked .ensures (given b) refl)
+    (open-run .if2 .left)
     (v .result) (v .ensures (b .args .p) (open-usable (entry b) (b .pre) (open-run .if2 .left) .fits (b .args .status .span .count) (omega arith))) (c .blinded2 .result) (c .blinded2 .ensures)
 
 pub mark-spec : {M : Type 1} → statement M
