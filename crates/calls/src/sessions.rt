@@ -3,8 +3,6 @@ use clock::Clock;
 use cuts::Row;
 use held::Shared;
 use held::Status;
-use property::Property;
-use rows::Words;
 use script::arguments;
 use script::properties;
 use script::text;
@@ -13,31 +11,6 @@ use session_record::Session;
 
 // So many bytes of a script.
 pub const SIZE: usize = 1729;
-
-// The record of arrays and what stands beside them, as they are.
-fn made(
-    p: Property,
-    held: Words,
-    acts: Words,
-    masks: Words,
-    armed: Words,
-    status: Status,
-) -> Session {
-    let shared = Shared {
-        held: held,
-        acts: acts,
-        status: status,
-    };
-    let row = Row {
-        masks: masks,
-        armed: armed,
-    };
-    Session {
-        property: p,
-        shared: shared,
-        row: row,
-    }
-}
 
 // A property, count, 64 held stamps, 64 actions, 65 masks, 65 words of armed lengths, latest, blind. The last place of the stamps and of the
 // actions, in which none is ever held, is 0.
@@ -60,7 +33,7 @@ pub fn read(s: &[u8]) -> Session {
         span: rows::spanning(arguments::size_at(s, 96)),
         clock: clock,
     };
-    made(p, held, acts, masks, armed, status)
+    session_record::of_arrays(p, held, acts, masks, armed, status)
 }
 
 // What all properties share: the numbers, the held stamps and their actions, a line each.

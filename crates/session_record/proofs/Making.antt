@@ -22,10 +22,9 @@ use Rattle.rows.specs.Rows.{spanning, none, Room}
 use Rattle.clock.specs.declared.Clock.{Clock}
 use Rattle.cuts.specs.Steps.{front-none, fresh-by}
 use Rattle.cuts.specs.Fronts.{cut-at, set-at, held-at, front-of, number-of, sets-of}
-use Rattle.session_record.specs.declared.Session.{Session}
 use Rattle.session_record.specs.Record.{record-of}
 use Rattle.session_record.specs.Step.{no-property, no-session}
-use Rattle.session_record.specs.Lent.{Memory, held-in, record-in, Ready, packed, packed-of, blank}
+use Rattle.session_record.specs.Lent.{Memory, held-in, record-in, Ready, of-arrays, packed, packed-of, blank}
 
 -- Four rows, each with its places.
 pub four-room : (a b c d : List ℕ) → length a ≡ 65 → length b ≡ 65 → length c ≡ 65 → length d ≡ 65 → (s : Span) → s .count ≤ 64 → Room (a ∷ b ∷ c ∷ d ∷ []) s
@@ -45,18 +44,10 @@ filled-padded w g n r f =
     (λ i h. f .above i h ∙ getD-repeat 0 w i)
 
 -- The record of rows, array by array.
-abbrev arrays : Property → Span → Clock → List ℕ → List ℕ → List ℕ → List ℕ → Session
-arrays p s clock held acts masks armed =
-    record {
-      property = p;
-      shared = record { held = held; acts = acts; status = record { span = s; clock = clock } };
-      row = record { masks = masks; armed = armed };
-    }
-
 pub packed-made : (p : Property) (rows : List (List ℕ)) (s s′ : Span) (cuts : ℕ) (clock : Clock) (held acts masks armed : List ℕ) → s′ ≡ spanning (s .count)
     → held ≡ packed rows s 0 (s .count) → acts ≡ packed rows s 1 (s .count) → masks ≡ packed rows s 2 cuts → armed ≡ packed rows s 3 cuts
-    → arrays p s′ clock held acts masks armed ≡ packed-of p rows s cuts clock
-packed-made p rows s s′ cuts clock held acts masks armed e h a m r = λ i. arrays p (e i) clock (h i) (a i) (m i) (r i)
+    → of-arrays p held acts masks armed (record { span = s′; clock = clock }) ≡ packed-of p rows s cuts clock
+packed-made p rows s s′ cuts clock held acts masks armed e h a m r = λ i. of-arrays p (h i) (a i) (m i) (r i) (record { span = e i; clock = clock })
 
 module _ (m : Memory) (ready : Ready m) where
   abbrev rows : List (List ℕ)
@@ -75,11 +66,12 @@ module _ (m : Memory) (ready : Ready m) where
   pub packed-open : m .status .clock .blind ≡ false → (n : ℕ) → n ≡ s .count + 1 → packed-of (m .property) rows s n (m .status .clock) ≡ record-in m
   packed-open b n e =
       (λ i.
-      arrays (m .property) (spanning (sym (length-first (held-at rows s 0) (s .count)) i)) (m .status .clock)
+      of-arrays (m .property)
       (padded 65 0 (sym (map-first (λ (x : Held Lengths). x .line .stamp) (held-at rows s 0) (s .count)) i))
       (padded 65 0 (sym (map-first (λ (x : Held Lengths). number-of (x .line .action)) (held-at rows s 0) (s .count)) i))
       (padded 65 0 (words (λ (c : Cut). c .mask) i))
-      (padded 65 0 (words (λ (c : Cut). c .armed) i)))
+      (padded 65 0 (words (λ (c : Cut). c .armed) i))
+      (record { span = spanning (sym (length-first (held-at rows s 0) (s .count)) i); clock = m .status .clock }))
       ∙ ap (λ (f : Front Lengths). record-of (m .property) (record { clock = held-in m .clock; front = f })) own
     where
       own : front-of rows s 0 ≡ held-in m .front

@@ -22,7 +22,7 @@ use Rattle.rows.specs.declared.Span.{Span}
 use Rattle.rows.specs.Rows.{spanning, word}
 use Rattle.rows.proofs.Rows.{word-spanning}
 use Rattle.held.specs.Held.{line-at}
-use Rattle.cuts.specs.Fronts.{cut-at, held-at, front-of, number-of, sets-of, stored-held, stored-acts, stored-row}
+use Rattle.cuts.specs.Fronts.{cut-at, front-of, number-of, sets-of, stored-held, stored-acts, stored-row}
 use Rattle.session_record.proofs.Each.{all-at}
 
 -- The rows of the record of a front.

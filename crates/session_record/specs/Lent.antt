@@ -77,33 +77,26 @@ pub record LineTaken (p : Property) (f : Front Lengths) (clock : Clock) (rows : 
   pub answered : r .answer ≡ answer-of (says p (front-says p f) (length (f .held)))
   pub clocked : r .status .clock ≡ clock
 
--- The record of rows, place by place, of which so many cuts are in use.
+-- The record of arrays and what stands beside them, as they are.
+abbrev pub of-arrays : Property → List ℕ → List ℕ → List ℕ → List ℕ → Status → Session
+of-arrays p held acts masks armed status =
+    record {
+      property = p;
+      shared = record { held = held; acts = acts; status = status };
+      row = record { masks = masks; armed = armed };
+    }
+
+-- The record of rows, of which so many cuts are in use.
 abbrev pub packed : List (List ℕ) → Span → ℕ → ℕ → List ℕ
 packed rows s k n = padded 65 0 (first (word rows s k) n)
 
 abbrev pub packed-of : Property → List (List ℕ) → Span → ℕ → Clock → Session
 packed-of p rows s cuts clock =
-    record {
-      property = p;
-      shared =
-          record {
-            held = packed rows s 0 (s .count);
-            acts = packed rows s 1 (s .count);
-            status = record { span = spanning (s .count); clock = clock };
-          };
-      row = record { masks = packed rows s 2 cuts; armed = packed rows s 3 cuts };
-    }
+    of-arrays p (packed rows s 0 (s .count)) (packed rows s 1 (s .count)) (packed rows s 2 cuts) (packed rows s 3 cuts)
+    (record { span = spanning (s .count); clock = clock })
 
 -- A record with no open input, its one cut as given.
 abbrev pub blank : Property → Cut → Session
 blank p c =
-    record {
-      property = p;
-      shared =
-          record {
-            held = replicate 65 0;
-            acts = replicate 65 0;
-            status = record { span = none; clock = stored-clock fresh-clock };
-          };
-      row = record { masks = c .mask ∷ replicate 64 0; armed = c .armed ∷ replicate 64 0 };
-    }
+    of-arrays p (replicate 65 0) (replicate 65 0) (c .mask ∷ replicate 64 0) (c .armed ∷ replicate 64 0)
+    (record { span = none; clock = stored-clock fresh-clock })

@@ -7,7 +7,7 @@ ghost use Rattle.rows.specs.declared.Span.{Span};
 ghost use Rattle.rows.specs.Rows.{Room};
 ghost use Rattle.session_record.specs.Record.{rows-of, out-of-range};
 ghost use Rattle.session_record.specs.Step.{answer-of};
-ghost use Rattle.session_record.specs.Lent.{memory, record-in, Ready, packed-of};
+ghost use Rattle.session_record.specs.Lent.{memory, record-in, Ready, of-arrays, packed-of};
 ghost use Rattle.session_record.specs.Lent;
 use clock::Clock;
 use cuts::Row;
@@ -105,19 +105,17 @@ fn packed(rows: &[Words], span: Span, k: usize, n: usize) -> Words
     r
 }
 
-// The record of these rows, of which so many cuts are in use.
-fn stored(p: Property, rows: &[Words], span: Span, cuts: usize, clock: Clock) -> Session
-    requires { ⌜ Room (now rows) span × (3 < length (now rows)) × (cuts ≤ 65) ⌝ }
-    ensures { λ r. ⌜ r ≡ packed-of p (now (rows .entry)) span cuts clock ⌝ }
+// The record of arrays and what stands beside them, as they are.
+pub fn of_arrays(
+    p: Property,
+    held: Words,
+    acts: Words,
+    masks: Words,
+    armed: Words,
+    status: Status,
+) -> Session
+    ensures { λ r. ⌜ r ≡ of-arrays p held acts masks armed status ⌝ }
 {
-    let held = packed(rows, span, 0, span.count);
-    let acts = packed(rows, span, 1, span.count);
-    let masks = packed(rows, span, 2, cuts);
-    let armed = packed(rows, span, 3, cuts);
-    let status = Status {
-        span: rows::spanning(span.count),
-        clock: clock,
-    };
     let shared = Shared {
         held: held,
         acts: acts,
@@ -132,6 +130,22 @@ fn stored(p: Property, rows: &[Words], span: Span, cuts: usize, clock: Clock) ->
         shared: shared,
         row: row,
     }
+}
+
+// The record of these rows, of which so many cuts are in use.
+fn stored(p: Property, rows: &[Words], span: Span, cuts: usize, clock: Clock) -> Session
+    requires { ⌜ Room (now rows) span × (3 < length (now rows)) × (cuts ≤ 65) ⌝ }
+    ensures { λ r. ⌜ r ≡ packed-of p (now (rows .entry)) span cuts clock ⌝ }
+{
+    let held = packed(rows, span, 0, span.count);
+    let acts = packed(rows, span, 1, span.count);
+    let masks = packed(rows, span, 2, cuts);
+    let armed = packed(rows, span, 3, cuts);
+    let status = Status {
+        span: rows::spanning(span.count),
+        clock: clock,
+    };
+    of_arrays(p, held, acts, masks, armed, status)
 }
 
 // The record for the caller, of what the rows hold: nothing stands in places not in use.
@@ -159,20 +173,7 @@ pub fn blank(p: Property, first: Cut) -> Session
         span: rows::spanning(0),
         clock: clock::fresh(),
     };
-    let shared = Shared {
-        held: [0u64; 65],
-        acts: [0u64; 65],
-        status: status,
-    };
-    let row = Row {
-        masks: masks,
-        armed: armed,
-    };
-    Session {
-        property: p,
-        shared: shared,
-        row: row,
-    }
+    of_arrays(p, [0u64; 65], [0u64; 65], masks, armed, status)
 }
 
 // "A refusal carries 0 in all other numbers"
