@@ -1,6 +1,6 @@
 -- The demands of document 00 as theorems: open this file first. Its words are defined in crates/meaning/specs and crates/demands/specs;
 -- `running p calls` is the session after any calls on a fresh one, `seen p calls` what those calls have come to by the rules.
-use Prim.Native.Nat.{ℕ, suc, _+_, _*_, _/_, _%_, _≤_, _<_}
+use Prim.Native.Nat.{ℕ, suc, _+_, _*_, _/_, _%_, _≤_, _<_, min}
 use mathlib.Core.Path.{_≡_, sym, _∙_, ap}
 use mathlib.Core.Bool.{true, false}
 use mathlib.Core.List.{List, [], _∷_, _++_}
@@ -25,10 +25,10 @@ use Rattle.property.specs.Meant.{meant}
 use Rattle.property.specs.declared.Property as Data
 use Rattle.property_form.specs.Read.{property-read, read-refusal as property-read-refusal, taken as property-taken}
 use Rattle.property_form.specs.Read
-use Rattle.record_form.specs.Record.{Reader, Bytes, record-size, record-answer}
+use Rattle.record_form.specs.Record.{Reader, Bytes, record-answer}
 use Rattle.trace_form.specs.Trace.{trace-form}
 use Rattle.trace_form.proofs.Reader.{Reads, record-reads}
-use Rattle.tap_form.specs.Tap.{tap-size, tap-answer}
+use Rattle.tap_form.specs.Tap.{tap-answer}
 use Rattle.tap_form.proofs.Reader.{tap-reads}
 use Rattle.cuts.specs.Steps.{fresh-by, refusal-by}
 use Rattle.session_record.specs.declared.Session.{Session}
@@ -36,7 +36,7 @@ use Rattle.session_record.specs.Record.{record-of, cuts-of, out-of-range}
 use Rattle.session_record.specs.Step.{answer-of, refusal-of, fresh-of, stepped-of, no-session}
 use Rattle.session_record.proofs.Steps.{step-refused, answer-refusal, fresh-refused, fresh-taken}
 use Rattle.session_record.proofs.Running.{running-answer}
-use Rattle.walk.specs.Walk.{budget-of, walk-of, rest-start}
+use Rattle.walk.specs.Walk.{walk-of, rest-start}
 use Rattle.stretch.specs.Judge.{judge-of, one-number}
 use Rattle.stretch.proofs.Judging.{one-long}
 use Rattle.line_text.specs.Text.{text-of}
@@ -210,13 +210,13 @@ module _ (p : Data.Property) (good : property-refusal (meant p) ≡ 0) where
   -- and a walk takes the trace's own records, in order, as many as it says it took, each as a single call. It is refused as the first
   -- record not taken is, and "lines taken earlier in the same call stay taken"; it has the last taken gap's number of lost lines.
   pub running-walk : (calls : List Call) (bytes : List ℕ) (budget : ℕ)
-      → WalkedOver (running p good calls) bytes (budget-of budget) (walk-of (running p good calls) bytes budget)
+      → WalkedOver (running p good calls) bytes (min budget 4_096) (walk-of (running p good calls) bytes budget)
   running-walk calls bytes budget = walk-over (running p good calls) bytes budget (running-range p good calls)
 
 -- ==== The walk on any record, also one that no calls made: 10 first, whatever the budget, else as above; `walk_rest` begins behind it
 pub record Demand-1-walk (s : Session) (bytes : List ℕ) (budget : ℕ) : Type 0 where
   pub named : out-of-range s ≡ true → walk-of s bytes budget ≡ record { taken = 0; stop = 2; refusal = 10; read = 0; lost = 0; session = s }
-  pub walked : out-of-range s ≡ false → WalkedOver s bytes (budget-of budget) (walk-of s bytes budget)
+  pub walked : out-of-range s ≡ false → WalkedOver s bytes (min budget 4_096) (walk-of s bytes budget)
   pub rest : rest-start (length bytes) (walk-of s bytes budget .read) ≡ walk-of s bytes budget .read
 
 pub demand-1-walk : (s : Session) (bytes : List ℕ) (budget : ℕ) → Demand-1-walk s bytes budget
@@ -268,12 +268,12 @@ listing-listed {size} {reader} reads property records =
       taken = λ e. (_, listing-taken size reader property records e, listing-shown size reader reads property records e);
     }
 
-pub demand-listing : (property records : List ℕ) → Demand-listing record-size record-answer property records
+pub demand-listing : (property records : List ℕ) → Demand-listing 6 record-answer property records
 demand-listing = listing-listed record-reads
 
 -- The tap card's records behind the property (document 02, CR 4): the same of what its reader reads. Of lines and marks that the card can
 -- say, its records have the listing of document 01's (`demand-tap`, in `Same`).
-pub demand-tap-listing : (property records : List ℕ) → Demand-listing tap-size tap-answer property records
+pub demand-tap-listing : (property records : List ℕ) → Demand-listing 5 tap-answer property records
 demand-tap-listing = listing-listed tap-reads
 
 -- `printed::record` on any record: what the walk of one record refuses (10 first) is the number that its last line names.

@@ -68,9 +68,9 @@ whole-trace n s bytes w e stop all = go (subst (λ (x : Walk). WalkedOver s byte
     go : WalkedOver s bytes n (walk-answer bytes w) → TakenWhole s bytes w
     go h =
         let st = subst (λ (x : Stop). StopsBy (stop-number x) (n - w .taken) (w .session) (behind (h .entries) bytes) (stop-refusal x) (h .more)) stop (h .stops) in
-        let end = subst (λ (x : Session). record-answer (behind (h .entries) bytes) (latest-of x) ≡ Record.taken Record.end 0 (latest-of x)) (h .session) (st .0) in
+        let end = subst (λ (x : Session). record-answer (behind (h .entries) bytes) (latest-of x) ≡ Record.taken Record.end 0 (latest-of x)) (h .session) (st .1) in
         let read : w .read ≡ record-size * w .taken + h .more = h .read in
-        let more : h .more ≡ record-size = st .2 in
+        let more : h .more ≡ 6 = st .3 in
         let count : w .taken ≡ length (h .entries) = h .counted in
         record {
           entries = h .entries;

@@ -63,7 +63,7 @@ module _ (p : Property) (good : property-refusal (meant p) ≡ 0) (trace : List 
 
       refused-some : (n : ℕ) → WalkedOver (record-of p (fresh-by p)) trace (length trace) (walk-answer trace w) → w .stop ≡ Refused n → n ≡ 0 → ⊥
       refused-some n h q =
-          subst (λ (x : Stop). StopsBy (stop-number x) (length trace - w .taken) (w .session) (behind (h .entries) trace) (stop-refusal x) (h .more)) q (h .stops) .1
+          subst (λ (x : Stop). StopsBy (stop-number x) (length trace - w .taken) (w .session) (behind (h .entries) trace) (stop-refusal x) (h .more)) q (h .stops) .2
 
       go : (stop : Stop) → w .stop ≡ stop → (behind : Bool) → ltb (w .read) (length trace) ≡ behind → trace-judged p trace .refusal ≡ 0 → TraceTaken
       go Budget q b r z =

@@ -1,12 +1,13 @@
 -- A walk takes the trace's own records, in order, each as a single call; and how it stops.
-use Prim.Native.Nat.{ℕ, zero, suc, _+_, _-_, _*_, _≤_}
+use Prim.Native.Nat.{ℕ, zero, suc, _+_, _-_, _*_, _≤_, min}
 use mathlib.Core.Path.{_≡_, refl, sym, _∙_, ap, ap₂, subst}
 use mathlib.Core.Logic.{inl, inr}
-use mathlib.Core.Bool.{true, false, cond}
+use mathlib.Core.Bool.{Bool, true, false, cond}
 use mathlib.Core.List.{List, [], _∷_}
 use native.Mathlib.Omega.{arith}
 use lib.ListN.{length, drop}
-use lib.Dec.{eqb}
+use lib.Dec.{eqb, ltb}
+use borrow.Author.Tests.{ltb-true, ltb-false}
 use Rattle.meaning.specs.Calls.{Call}
 use Rattle.meaning.specs.Matcher.{Lengths}
 use Rattle.meaning.specs.Step.{Cuts}
@@ -93,7 +94,7 @@ pub record WalkedOver (s : Session) (bytes : List ℕ) (budget : ℕ) (w : Walki
   -- how it stopped, and the bytes read.
   pub more : ℕ
   pub stops : StopsBy (w .stop) (budget - w .taken) (w .session) (behind entries bytes) (w .refusal) more
-  pub read : w .read ≡ record-size * w .taken + more
+  pub read : w .read ≡ 6 * w .taken + more
 
 -- the last gap's number, by the bytes and by their records
 pub begun-lost : (bytes : List ℕ) (before : ℕ) (entries : List Entry) → BeginsWith bytes before entries → (lost : ℕ) → last-lost lost (length entries) bytes ≡ last-gap lost entries
@@ -132,6 +133,9 @@ walked-over (suc budget) s bytes = by-front (read-as (record-answer bytes (lates
   where
     on : Session → Walk
     on after = walk-on budget after (drop record-size bytes)
+
+    some-left : suc budget - 0 ≡ 0 → ⊥
+    some-left e = omega (arith, e)
 
     -- nothing is taken
     stop-here : (stop : Stop) (more : ℕ) → StopsBy (stop-number stop) (suc budget - 0) s bytes (stop-refusal stop) more
@@ -177,18 +181,28 @@ walked-over (suc budget) s bytes = by-front (read-as (record-answer bytes (lates
         → ((after : Session) → WalkedOver after (drop record-size bytes) budget (walk-answer (drop record-size bytes) (on after)))
         → WalkedOver s bytes (suc budget) (walk-answer bytes (walked-by (one-call s (entry-call e) n) s on))
     tried e read zero z k = unfold one-call walked-by in (one-taken e read z (on (stepped-of s (entry-call e) .session)) (k (stepped-of s (entry-call e) .session)))
-    tried e read (suc n) z k = unfold one-call walked-by in (stop-here (Refused (suc n)) 0 (inr (e, read, z), (λ y. omega arith), refl))
+    tried e read (suc n) z k = unfold one-call walked-by in (stop-here (Refused (suc n)) 0 (some-left, inr (e, read, z), (λ y. omega arith), refl))
 
     by-front : (x : ReadAs) → Front record-answer bytes (latest-of s) x → ((after : Session) → WalkedOver after (drop record-size bytes) budget (walk-answer (drop record-size bytes) (on after)))
         → WalkedOver s bytes (suc budget) (walk-answer bytes (walked-by (one-read s x) s on))
     by-front x (entry e read) k = unfold one-read in (tried e read _ refl k)
-    by-front x (ended read) k = unfold one-read walked-by in (stop-here End record-size (read, refl, refl))
+    by-front x (ended read) k = unfold one-read walked-by in (stop-here End record-size (some-left, read, refl, refl))
     by-front x (refused n number some) k =
-        unfold one-read walked-by in (stop-here (Refused n) 0 (inl number, some, refl))
+        unfold one-read walked-by in (stop-here (Refused n) 0 (some-left, inl number, some, refl))
 
 -- Of the promised walk: refusal 10, whatever the budget, or that.
-pub walk-over : (s : Session) (bytes : List ℕ) (budget : ℕ) → out-of-range s ≡ false → WalkedOver s bytes (budget-of budget) (walk-of s bytes budget)
-walk-over s bytes budget e = subst (WalkedOver s bytes (budget-of budget)) (sym (walk-taken s bytes budget e)) (walked-over (budget-of budget) s bytes)
+-- "a budget of 0 to 4,096 records (more counts as 4,096)"
+most : (budget : ℕ) → budget-of budget ≡ min budget 4_096
+most budget = go (ltb 4_096 budget) refl
+  where
+    go : (t : Bool) → ltb 4_096 budget ≡ t → cond t 4_096 budget ≡ min budget 4_096
+    go true e = omega (arith, ltb-true 4_096 budget e)
+    go false e = omega (arith, ltb-false 4_096 budget e)
+
+pub walk-over : (s : Session) (bytes : List ℕ) (budget : ℕ) → out-of-range s ≡ false → WalkedOver s bytes (min budget 4_096) (walk-of s bytes budget)
+walk-over s bytes budget e =
+    subst (λ (n : ℕ). WalkedOver s bytes n (walk-of s bytes budget)) (most budget)
+    (subst (WalkedOver s bytes (budget-of budget)) (sym (walk-taken s bytes budget e)) (walked-over (budget-of budget) s bytes))
 
 pub walk-named : (s : Session) (bytes : List ℕ) (budget : ℕ) → out-of-range s ≡ true
     → walk-of s bytes budget ≡ record { taken = 0; stop = 2; refusal = 10; read = 0; lost = 0; session = s }
