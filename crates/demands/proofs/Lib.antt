@@ -12,6 +12,7 @@ pub mod Written
 pub mod Forms
 pub mod Packed
 pub mod Digits
+pub mod Texts
 pub mod Listing
 pub mod Same
 pub mod Named

@@ -1,6 +1,6 @@
 -- Demand 1 of the packed forms: "a numbered refusal, given exactly when the rules say so", and nothing else is answered or altered.
-use Prim.Native.Nat.{ℕ, suc, _+_, _-_, _%_, _^_}
-use mathlib.Core.Path.{_≡_, refl, sym, _∙_}
+use Prim.Native.Nat.{ℕ, zero, suc, _+_, _-_, _*_, _/_, _%_, _^_, _<_}
+use mathlib.Core.Path.{_≡_, refl, sym, _∙_, ap, subst}
 use mathlib.Core.Bool.{not, cond, _&&_, _||_}
 use mathlib.Core.List.{List}
 use native.Mathlib.Omega.{arith}
@@ -8,19 +8,25 @@ use lib.ListN.{length}
 use lib.Dec.{ltb, eqb}
 use Rattle.meaning.specs.Words.{Property as PropertyMeant}
 use Rattle.meaning.specs.Numbers.{given, first-of, property-refusal}
-use Rattle.property.specs.Meant.{meant}
+use Rattle.laws.proofs.Places.{first-same}
+use Rattle.property.specs.Meant.{action-of, meant}
+use Rattle.property.specs.declared.Property.{Property}
 use Rattle.property_form.specs.Read.{property-read, zeros, too-short, pad-broken, read-refusal as property-read-refusal, taken as property-taken}
 use Rattle.property_form.specs.Read
 use Rattle.property_form.specs.Write
 use Rattle.property_form.specs.Form.{property-form}
-use Rattle.property_form.proofs.Answers.{read-refused, taken-none, written-refused, left-refused}
-use Rattle.fields.specs.Fields.{field}
+use Rattle.property_form.proofs.Answers.{read-refused, taken-none, taken-all, refusal-read, property-of-read, written-refused, left-refused}
+use Rattle.property_form.proofs.Laws.{digit-mask}
+use Rattle.property_form.proofs.ReadBits.{action-read, sequence-read}
+use Rattle.fields.specs.Fields.{digit, bit, field}
+use Rattle.fields.proofs.Laws.{bit-lt, field-lt}
 use Rattle.record_form.specs.Record.{record-answer, read-refusal, fields-refusal, bytes-read, broken, stamp-above, write-refusal}
 use Rattle.record_form.specs.Record
-use Rattle.record_form.proofs.Reading.{refusal-of}
+use Rattle.record_form.proofs.Reading.{refusal-of, taken-answer, size-taken}
 use Rattle.tap_form.specs.Tap.{since, tap-stamp, tap-broken, tap-fields-refusal, tap-refusal, tap-answer, tap-bytes-read}
 use Rattle.tap_form.proofs.Reading.{tap-number, tap-taken, tap-size-taken}
 use Rattle.demands.specs.Refuses.{Refuses}
+use Rattle.demands.specs.Packed.{action-by, PropertyFields}
 use Rattle.demands.proofs.Forms.{answer-refused, record-not-written}
 
 -- `read_property` with `property_rest`: 7, 8, 1, 2, 3; a property of zeros, and no byte is taken.
@@ -33,6 +39,28 @@ demand-1-read-property s =
       first = refl;
       alone = λ n e. (sym (read-refused s (suc n) zeros (sym e) (λ z. omega arith) refl), sym (taken-none s (λ z. omega (arith, e, z))));
     }
+
+-- Taken, it answers the property whose fields these are, and takes its 122 + 7n bits, "to a full byte".
+pub demand-read-property : (s : List ℕ) → Read.read s .refusal ≡ 0
+    → PropertyFields s (meant (Read.read s .property)) × (property-taken s ≡ (122 + 7 * field s 0 6 + 7) / 8)
+unfolding property-read
+demand-read-property s e =
+    let r : property-read-refusal s ≡ 0 = sym (refusal-read s) ∙ e in
+    (subst (λ (p : Property). PropertyFields s (meant p)) (sym (property-of-read s r)) fields, taken-all s r)
+  where
+    by-flag : (b k : ℕ) → b < 2 → action-of (eqb b 1) k ≡ action-by b k
+    by-flag zero k h = refl
+    by-flag (suc zero) k h = refl
+    by-flag (suc (suc b)) k h = absurd (omega (arith, h))
+
+    fields : PropertyFields s (meant (property-read s))
+    fields =
+        record {
+          lb = refl;
+          ub = refl;
+          sequence = sequence-read s ∙ first-same (action-read s) _ (field s 0 6) (λ i h. by-flag (field s (58 + 7 * i) 1) _ (field-lt s (58 + 7 * i) 1));
+          allowed = λ k h. unfold digit in (ap (λ (d : ℕ). eqb d 1) (digit-mask (bit s) (bit-lt s) (58 + 7 * field s 0 6) 64 k h));
+        }
 
 -- `write_property`: 1, 2, 3, 9; no byte is written.
 pub demand-1-write-property : (q : PropertyMeant) (buffer : List ℕ)
@@ -54,6 +82,13 @@ pub demand-1-read-record : (s : List ℕ) (before : ℕ)
 unfolding record-answer read-refusal fields-refusal bytes-read
 demand-1-read-record s before =
     record { first = refusal-of s before; alone = λ n e. answer-refused (read-refusal s before) n 6 _ (sym (refusal-of s before) ∙ e) }
+
+-- Taken, it answers its fields, with the stamp before added, and takes six bytes: "40 bits of stamp, less the stamp before it".
+pub demand-read-record : (s : List ℕ) (before : ℕ) → record-answer s before .refusal ≡ 0
+    → (record-answer s before ≡ Record.taken (field s 0 2) (field s 2 6) (before + field s 8 40)) × (bytes-read s before ≡ 6)
+demand-read-record s before e =
+    let none = sym (refusal-of s before) ∙ e in
+    (taken-answer s before none, size-taken s before none)
 
 -- `write_record`: 8, 3, 4, 5, 9; no byte is written.
 pub demand-1-write-record : (kind action stamp before : ℕ) (buffer : List ℕ)
