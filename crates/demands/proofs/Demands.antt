@@ -1,7 +1,7 @@
 -- The demands of document 00 as theorems: open this file first. Its words are defined in crates/meaning/specs and crates/demands/specs;
 -- `running p calls` is the session after any calls on a fresh one, `seen p calls` what those calls have come to by the rules.
 use Prim.Native.Nat.{ℕ, suc, _+_, _*_, _/_, _%_, _≤_, _<_, min}
-use mathlib.Core.Path.{_≡_, sym, _∙_, ap}
+use mathlib.Core.Path.{_≡_, sym, _∙_, ap, ap₂}
 use mathlib.Core.Bool.{true, false}
 use mathlib.Core.List.{List, [], _∷_, _++_}
 use native.Mathlib.Omega.{arith}
@@ -40,18 +40,19 @@ use Rattle.walk.specs.Walk.{walk-of, rest-start}
 use Rattle.stretch.specs.Judge.{judge-of, one-number}
 use Rattle.stretch.proofs.Judging.{one-long}
 use Rattle.line_text.specs.Text.{text-of}
-use Rattle.printout.specs.Text.{header-text, stop-text}
 use Rattle.printed.specs.Printed.{printed-of}
-use Rattle.printed.specs.Listing.{listing-by}
+use Rattle.printed.specs.Listing.{records-by, listing-by}
 pub use Rattle.printed.proofs.Whole.{listing-taken, listing-refused, counted as listing-count}
 use Rattle.demands.specs.Refuses.{Refuses}
 use Rattle.demands.specs.Uses.{Use, session-through}
 use Rattle.demands.specs.Traces.{first-met}
+use Rattle.demands.specs.Texts.{header, row-text, stop-line}
 use Rattle.demands.proofs.Running.{running, seen, running-number, running-range}
 use Rattle.demands.proofs.Exact.{blind-kept, exact-kept, line-told, says-blind}
 use Rattle.demands.proofs.Walks.{WalkedOver, walk-over, walk-named, walk-rest}
 use Rattle.demands.proofs.Judging.{JudgeTaken, judge-taken, judge-first, judge-alone, taken-apart}
 use Rattle.demands.proofs.Uses.{uses-are-calls}
+use Rattle.demands.proofs.Texts.{demand-header, demand-last}
 use Rattle.demands.proofs.Listing.{ShownBy, refused-shown, read-good, listing-shown}
 use Rattle.demands.proofs.Forms.{fresh-number}
 -- "Packed properties and traces read back as written, and only one packing of each is taken." Numbers of a listing are decimal.
@@ -253,19 +254,24 @@ pub judge-one-packing : {property trace other : List ℕ} → (a : JudgeTaken pr
     → (b : JudgeTaken property other (judge-of property other)) → a .entries ≡ b .entries → trace ≡ other
 judge-one-packing a b e = a .trace-packed ∙ ap (trace-form 0) e ∙ sym (b .trace-packed)
 
--- ==== The listing: the header; a refused property, `stop 0` and its number; one that is taken, a line for each record taken, which
--- shows it and the verdict and number open that the rules give after it, and the last line (`ShownBy`), of records of a size and their reader.
+-- ==== The listing, in the document's words (`Texts`): the header; a refused property, `stop 0` and its number; one that is taken, a row for each
+-- record taken, which shows it and the verdict and number open that the rules give after it, and the last line (`ShownBy`), of records of
+-- a size and their reader.
 pub record Demand-listing (size : ℕ) (reader : Reader) (property records : List ℕ) : Type 0 where
-  pub refused : (n : ℕ) → Read.read property .refusal ≡ suc n → listing-by size reader property records ≡ header-text ++ stop-text 0 (suc n)
+  pub refused : (n : ℕ) → Read.read property .refusal ≡ suc n → listing-by size reader property records ≡ header ++ stop-line 0 (suc n)
   pub taken : (e : Read.read property .refusal ≡ 0)
-      → (text : List ℕ) × (listing-by size reader property records ≡ header-text ++ text)
-      × ShownBy (Read.read property .property) (read-good property e) size reader [] 0 records text
+      → (text : List ℕ) × (listing-by size reader property records ≡ header ++ text)
+      × ShownBy (Read.read property .property) (read-good property e) size reader row-text [] 0 records text
 
 listing-listed : {size : ℕ} {reader : Reader} → Reads size reader → (property records : List ℕ) → Demand-listing size reader property records
 listing-listed {size} {reader} reads property records =
     record {
-      refused = listing-refused size reader property records;
-      taken = λ e. (_, listing-taken size reader property records e, listing-shown size reader reads property records e);
+      refused = λ n e. listing-refused size reader property records n e ∙ ap₂ _++_ (demand-header .0) (demand-last 0 (suc n) .1);
+      taken = λ e. (
+        records-by size reader (fresh-of (Read.read property .property) .session) 0 records,
+        listing-taken size reader property records e ∙ ap (λ (h : List ℕ). h ++ records-by size reader (fresh-of (Read.read property .property) .session) 0 records) (demand-header .0),
+        listing-shown size reader reads property records e,
+      );
     }
 
 pub demand-listing : (property records : List ℕ) → Demand-listing 6 record-answer property records
@@ -278,5 +284,7 @@ demand-tap-listing = listing-listed tap-reads
 
 -- `printed::record` on any record: what the walk of one record refuses (10 first) is the number that its last line names.
 pub demand-1-printed : (s : Session) (count : ℕ) (bytes : List ℕ) (n : ℕ) → walk-of s bytes 1 .refusal ≡ suc n
-    → printed-of s count bytes ≡ record { text = text-of (stop-text count (suc n)); session = s; count = count; more = false }
-demand-1-printed = refused-shown
+    → printed-of s count bytes ≡ record { text = text-of (stop-line count (suc n)); session = s; count = count; more = false }
+demand-1-printed s count bytes n e =
+    refused-shown s count bytes n e
+    ∙ ap (λ (t : List ℕ). record { text = text-of t; session = s; count = count; more = false }) (demand-last count (suc n) .1)

@@ -1,12 +1,12 @@
--- What the records of a trace add to a listing: the lines of `Shows`, and the last line.
-use Prim.Native.Nat.{ℕ, zero, suc, _<_, _≤_}
+-- What the records of a trace add to a listing: a row for each (`Rows`), and the last line.
+use Prim.Native.Nat.{ℕ, zero, suc, _+_, _%_, _^_, _<_, _≤_}
 use mathlib.Core.Path.{_≡_, refl, sym, _∙_, ap, ap₂, subst}
 use mathlib.Core.Bool.{Bool, true, false, cond}
 use mathlib.Core.Logic.{inl, inr}
 use mathlib.Core.List.{List, [], _∷_, _++_, append-assoc}
 use native.Mathlib.Omega.{arith}
 use lib.ListN.{length, drop, length-drop}
-use Rattle.meaning.specs.Node.{verdict-number}
+use Rattle.meaning.specs.Node.{Verdict, verdict-number}
 use Rattle.meaning.specs.Numbers.{property-refusal}
 use Rattle.meaning.specs.Calls.{Call, open-of}
 use Rattle.meaning.proofs.Lengths.{lengths-reading}
@@ -26,22 +26,67 @@ use Rattle.session_record.specs.Step.{standing, fresh-of, stepped-of, stepped-t
 use Rattle.session_record.proofs.Running.{running-record}
 use Rattle.walk.specs.declared.Stop.the-variants.{Refused}
 use Rattle.walk.specs.Walk.{One, one-call, one-read, one-of, stopped, walked-by, walk-on, walk-answer, walk-of}
-use Rattle.printout.specs.Text.{line-text, end-text, stop-text}
+use Rattle.printout.specs.Text.{line-text, stop-text}
 use Rattle.printed.specs.Printed.{one-after, call-text, last-line, by-one, printed-by, printed-of}
-use Rattle.printed.specs.Listing.{lines-by, records-by, count-after}
-use Rattle.printed.proofs.Listing.{took-line, refused-line, end-line}
+use Rattle.printed.specs.Listing.{lines-by, records-by}
+use Rattle.printed.proofs.Listing.{took-line, refused-line, end-line as end-line-of}
 use Rattle.demands.specs.Traces.{calls-of, BeginsBy, behind-by, TakenOneByOne}
-use Rattle.demands.specs.Listing.{Shows, LastLine}
+use Rattle.demands.specs.Texts.{Row, row-text, all-rows, end-line, stop-line}
+use Rattle.demands.specs.Listing.{Rows, counted, LastLine}
+use Rattle.demands.proofs.Texts.{demand-last, demand-line}
 use Rattle.demands.proofs.Running.{running, seen, running-range, running-next}
 use Rattle.demands.proofs.Exact.{standing-told}
 use Rattle.demands.proofs.Walks.{Front, entry, ended, refused, front, entry-latest}
 
-entry-text : (number : ℕ) (e : Entry) (after : Session)
-    → call-text number (entry-call e) after ≡ line-text number (kind-of e) (action-of e) (stamp-of e) (standing after) (count-of after)
-unfolding call-text
-entry-text number (Entry.input a t) after = refl
-entry-text number (Entry.output a t) after = refl
-entry-text number (Entry.gap n t) after = refl
+-- ---- listings
+
+-- What is used of a listing of records of a size, as a reader reads them: the text of a row, and what is listed behind so many rows by what
+-- the record at the front is.
+pub record Lister (size : ℕ) (reader : Reader) : Type 0 where
+  pub row : Row → List ℕ
+  pub lines : ℕ → Session → ℕ → List ℕ → List ℕ
+  pub at-end : (most : ℕ) (s : Session) (count : ℕ) (bytes : List ℕ) → out-of-range s ≡ false → read-as (reader bytes (latest-of s)) ≡ ReadAs.end
+      → lines (suc most) s count bytes ≡ end-line count
+  pub at-refusal : (most : ℕ) (s : Session) (count : ℕ) (bytes : List ℕ) → out-of-range s ≡ false → (x : ReadAs) → read-as (reader bytes (latest-of s)) ≡ x
+      → (n : ℕ) → one-read s x ≡ One.refused n → lines (suc most) s count bytes ≡ stop-line count n
+  pub at-call : (most : ℕ) (s : Session) (count : ℕ) (bytes : List ℕ) → out-of-range s ≡ false → (e : Entry)
+      → read-as (reader bytes (latest-of s)) ≡ ReadAs.call (entry-call e) → stepped-of s (entry-call e) .answer .refusal ≡ 0
+      → (v : Verdict) → standing (stepped-of s (entry-call e) .session) ≡ verdict-number v
+      → lines (suc most) s count bytes
+      ≡ row (record { number = (count + 1) % 2 ^ 64; entry = e; verdict = v; open-count = count-of (stepped-of s (entry-call e) .session) })
+      ++ lines most (stepped-of s (entry-call e) .session) ((count + 1) % 2 ^ 64) (drop size bytes)
+
+-- The listing without names is one.
+pub plain : (size : ℕ) (reader : Reader) → Reads size reader → Lister size reader
+plain size reader reads =
+    record {
+      row = row-text;
+      lines = lines-by size reader;
+      at-end = λ most s count bytes fits e. end-line-of size reader reads most s count bytes fits e ∙ demand-last count 0 .0;
+      at-refusal = λ most s count bytes fits x e n q. refused-line size reader reads most s count bytes fits x e n q ∙ demand-last count n .1;
+      at-call = called;
+    }
+  where
+    text : (number : ℕ) (e : Entry) (after : Session)
+        → call-text number (entry-call e) after ≡ line-text number (kind-of e) (action-of e) (stamp-of e) (standing after) (count-of after)
+    text number (Entry.input a t) after = unfold call-text in refl
+    text number (Entry.output a t) after = unfold call-text in refl
+    text number (Entry.gap n t) after = unfold call-text in refl
+
+    called : (most : ℕ) (s : Session) (count : ℕ) (bytes : List ℕ) → out-of-range s ≡ false → (e : Entry)
+        → read-as (reader bytes (latest-of s)) ≡ ReadAs.call (entry-call e) → stepped-of s (entry-call e) .answer .refusal ≡ 0
+        → (v : Verdict) → standing (stepped-of s (entry-call e) .session) ≡ verdict-number v
+        → lines-by size reader (suc most) s count bytes
+        ≡ row-text (record { number = (count + 1) % 2 ^ 64; entry = e; verdict = v; open-count = count-of (stepped-of s (entry-call e) .session) })
+        ++ lines-by size reader most (stepped-of s (entry-call e) .session) ((count + 1) % 2 ^ 64) (drop size bytes)
+    called most s count bytes fits e q z v h =
+        let after = stepped-of s (entry-call e) .session in
+        unfold one-after in
+        (took-line size reader reads most s count bytes fits (entry-call e) q z
+        ∙ ap (λ (t : List ℕ). t ++ lines-by size reader most after ((count + 1) % 2 ^ 64) (drop size bytes))
+        (text ((count + 1) % 2 ^ 64) e after
+        ∙ ap (λ (w : ℕ). line-text ((count + 1) % 2 ^ 64) (kind-of e) (action-of e) (stamp-of e) w (count-of after)) h
+        ∙ demand-line (record { number = (count + 1) % 2 ^ 64; entry = e; verdict = v; open-count = count-of after })))
 
 module _ (p : Property) (good : property-refusal (meant p) ≡ 0) where
   -- the number held is the number that Room counts
@@ -50,90 +95,105 @@ module _ (p : Property) (good : property-refusal (meant p) ≡ 0) where
       let R = lengths-reading (meant p) good in
       ap count-of (running-record p good calls) ∙ open-agrees R (grown-agrees R calls)
 
-  -- The bytes begin with these records, as a reader of records of this size reads them, each is taken as a single call, and the text is a
-  -- line for each and the last line.
-  pub record ShownBy (size : ℕ) (reader : Reader) (before : List Call) (number : ℕ) (bytes text : List ℕ) : Type 0 where
+  -- The bytes begin with these records, as a reader of records of this size reads them, each is taken as a single call, there is a row for
+  -- each, and the last line; and so many lines of any listing of them are these.
+  pub record Listed (size : ℕ) (reader : Reader) (most : ℕ) (before : List Call) (number : ℕ) (bytes : List ℕ) : Type 0 where
     pub entries : List Entry
     pub begins : BeginsBy size reader bytes (latest-of (running p good before)) entries
     pub each : TakenOneByOne (running p good before) (calls-of entries)
-    pub lines : List ℕ
-    pub shows : Shows (meant p) before number entries lines
+    pub rows : List Row
+    pub are-rows : Rows (meant p) before number entries rows
     pub last : List ℕ
-    pub is-last : LastLine reader (stepped-through (running p good before) (calls-of entries)) (behind-by size entries bytes) (count-after number (calls-of entries)) last
-    pub whole : text ≡ lines ++ last
+    pub is-last : LastLine reader (stepped-through (running p good before) (calls-of entries)) (behind-by size entries bytes) (counted number entries) last
+    pub whole : (L : Lister size reader) → L .lines most (running p good before) number bytes ≡ all-rows (L .row) rows ++ last
 
   module _ (size : ℕ) (reader : Reader) (reads : Reads size reader) (most : ℕ) (before : List Call) (number : ℕ) (bytes : List ℕ) where
     abbrev s : Session
     s = running p good before
 
+    fits : out-of-range s ≡ false
+    fits = running-range p good before
+
     -- the last line
-    none-more : (text : List ℕ) → LastLine reader s bytes number text → ShownBy size reader before number bytes text
-    unfolding stepped-through count-after
-    none-more text h = record { entries = []; begins = tt; each = tt; lines = []; shows = refl; last = text; is-last = h; whole = refl }
+    none-more : (text : List ℕ) → LastLine reader s bytes number text → ((L : Lister size reader) → L .lines (suc most) s number bytes ≡ text)
+        → Listed size reader (suc most) before number bytes
+    unfolding stepped-through all-rows
+    none-more text h all = record { entries = []; begins = tt; each = tt; rows = []; are-rows = refl; last = text; is-last = h; whole = all }
 
     -- one line more
-    module _ (e : Entry) (h : reader bytes (latest-of s) ≡ Record.taken (kind-of e) (action-of e) (stamp-of e))
+    module _ (e : Entry) (k : reader bytes (latest-of s) ≡ Record.taken (kind-of e) (action-of e) (stamp-of e)) (q : read-as (reader bytes (latest-of s)) ≡ ReadAs.call (entry-call e))
         (z : stepped-of s (entry-call e) .answer .refusal ≡ 0) where
       abbrev next : List Call
       next = before ++ entry-call e ∷ []
 
-      one-line : (rest : List ℕ) → ShownBy size reader next (one-after number) (drop size bytes) rest
-          → ShownBy size reader before number bytes (call-text (one-after number) (entry-call e) (running p good next) ++ rest)
-      unfolding stepped-through count-after
-      one-line rest r =
-          let v = standing-told p good next in
+      abbrev one : ℕ
+      one = (number + 1) % 2 ^ 64
+
+      one-line : Listed size reader most next one (drop size bytes) → Listed size reader (suc most) before number bytes
+      unfolding stepped-through all-rows
+      one-line r =
           let c = entry-call e in
-          let latest : latest-of (running p good next) ≡ stamp-of e = ap latest-of (running-next p good before c) ∙ entry-latest s e z in
-          let line = line-text (one-after number) (kind-of e) (action-of e) (stamp-of e) (verdict-number (v .0)) (open-of (meant p) (seen p good next)) in
-          let same : call-text (one-after number) c (running p good next) ≡ line =
-          entry-text (one-after number) e (running p good next)
-          ∙ ap₂ (line-text (one-after number) (kind-of e) (action-of e) (stamp-of e)) (v .2) (open-told next) in
+          let to : running p good next ≡ stepped-of s c .session = running-next p good before c in
+          let latest : latest-of (running p good next) ≡ stamp-of e = ap latest-of to ∙ entry-latest s e z in
+          let v = standing-told p good next in
+          let row : Row = record { number = one; entry = e; verdict = v .0; open-count = open-of (meant p) (seen p good next) } in
           record {
             entries = e ∷ r .entries;
-            begins = (h, subst (λ (t : ℕ). BeginsBy size reader (drop size bytes) t (r .entries)) latest (r .begins));
-            each = (z, subst (λ (x : Session). TakenOneByOne x (calls-of (r .entries))) (running-next p good before c) (r .each));
-            lines = line ++ r .lines;
-            shows = (v .0, r .lines, v .1, refl, r .shows);
+            begins = (k, subst (λ (t : ℕ). BeginsBy size reader (drop size bytes) t (r .entries)) latest (r .begins));
+            each = (z, subst (λ (x : Session). TakenOneByOne x (calls-of (r .entries))) to (r .each));
+            rows = row ∷ r .rows;
+            are-rows = (v .0, r .rows, v .1, refl, r .are-rows);
             last = r .last;
             is-last =
-                subst
-                (λ (x : Session). LastLine reader (stepped-through x (calls-of (r .entries))) (behind-by size (r .entries) (drop size bytes)) (count-after (one-after number) (calls-of (r .entries))) (r .last))
-                (running-next p good before c) (r .is-last);
-            whole = ap₂ _++_ same (r .whole) ∙ sym (append-assoc line (r .lines) (r .last));
+                subst (λ (x : Session). LastLine reader (stepped-through x (calls-of (r .entries))) (behind-by size (r .entries) (drop size bytes)) (counted one (r .entries)) (r .last))
+                to (r .is-last);
+            whole = λ L.
+                L .at-call most s number bytes fits e q z (v .0) (ap standing (sym to) ∙ v .2)
+                ∙ ap₂ (λ (n : ℕ) (rest : List ℕ). L .row (record { number = one; entry = e; verdict = v .0; open-count = n }) ++ rest)
+                (ap count-of (sym to) ∙ open-told next) (ap (λ (x : Session). L .lines most x one (drop size bytes)) (sym to) ∙ r .whole L)
+                ∙ sym (append-assoc (L .row row) (all-rows (L .row) (r .rows)) (r .last));
           }
 
     by-front : (x : ReadAs) → Front reader bytes (latest-of s) x → read-as (reader bytes (latest-of s)) ≡ x
-        → ((after : List Call) → length (drop size bytes) < most → ShownBy size reader after (one-after number) (drop size bytes) (lines-by size reader most (running p good after) (one-after number) (drop size bytes)))
-        → length bytes < suc most → ShownBy size reader before number bytes (lines-by size reader (suc most) s number bytes)
-    by-front x (ended e) q on h =
-        subst (ShownBy size reader before number bytes) (sym (end-line size reader reads most s number bytes (running-range p good before) q)) (none-more (end-text number) (inl (e, refl)))
+        → ((after : List Call) → length (drop size bytes) < most → Listed size reader most after ((number + 1) % 2 ^ 64) (drop size bytes))
+        → length bytes < suc most → Listed size reader (suc most) before number bytes
+    by-front x (ended e) q on h = none-more (end-line number) (inl (e, refl)) (λ L. L .at-end most s number bytes fits q)
     by-front x (refused n e nz) q on h =
-        subst (ShownBy size reader before number bytes)
-        (sym (refused-line size reader reads most s number bytes (running-range p good before) (ReadAs.refused n) q n (unfold one-read in refl)))
-        (none-more (stop-text number n) (inr (n, inl e, nz, refl)))
+        none-more (stop-line number n) (inr (n, inl e, nz, refl)) (λ L. L .at-refusal most s number bytes fits (ReadAs.refused n) q n (unfold one-read in refl))
     by-front x (entry e k) q on h = by-number (stepped-of s (entry-call e) .answer .refusal) refl
       where
         long : size ≤ length bytes
         long = reads-whole reads bytes (latest-of s) (ap (λ (a : RecordAnswer). a .refusal) k)
 
-        by-number : (n : ℕ) → stepped-of s (entry-call e) .answer .refusal ≡ n → ShownBy size reader before number bytes (lines-by size reader (suc most) s number bytes)
-        by-number zero z =
-            subst (ShownBy size reader before number bytes)
-            (ap (λ (x : Session). call-text (one-after number) (entry-call e) x ++ lines-by size reader most x (one-after number) (drop size bytes)) (running-next p good before (entry-call e))
-            ∙ sym (took-line size reader reads most s number bytes (running-range p good before) (entry-call e) q z))
-            (one-line e k z _ (on (before ++ entry-call e ∷ []) (omega (arith, long, h, length-drop size bytes, reads .some))))
+        by-number : (n : ℕ) → stepped-of s (entry-call e) .answer .refusal ≡ n → Listed size reader (suc most) before number bytes
+        by-number zero z = one-line e k q z (on (before ++ entry-call e ∷ []) (omega (arith, long, h, length-drop size bytes, reads .some)))
         by-number (suc n) z =
             let r : one-read s (ReadAs.call (entry-call e)) ≡ One.refused (suc n) = unfold one-read one-call in (ap (one-call s (entry-call e)) z) in
-            subst (ShownBy size reader before number bytes)
-            (sym (refused-line size reader reads most s number bytes (running-range p good before) (ReadAs.call (entry-call e)) q (suc n) r))
-            (none-more (stop-text number (suc n)) (inr (suc n, inr (e, k, z), (λ y. omega arith), refl)))
+            none-more (stop-line number (suc n)) (inr (suc n, inr (e, k, z), (λ y. omega arith), refl))
+            (λ L. L .at-refusal most s number bytes fits (ReadAs.call (entry-call e)) q (suc n) r)
 
-  pub shown-on : (size : ℕ) (reader : Reader) → Reads size reader → (most : ℕ) (before : List Call) (number : ℕ) (bytes : List ℕ) → length bytes < most
-      → ShownBy size reader before number bytes (lines-by size reader most (running p good before) number bytes)
-  shown-on size reader reads zero before number bytes h = absurd (omega arith)
-  shown-on size reader reads (suc most) before number bytes h =
+  pub listed : (size : ℕ) (reader : Reader) → Reads size reader → (most : ℕ) (before : List Call) (number : ℕ) (bytes : List ℕ) → length bytes < most
+      → Listed size reader most before number bytes
+  listed size reader reads zero before number bytes h = absurd (omega arith)
+  listed size reader reads (suc most) before number bytes h =
       by-front size reader reads most before number bytes (read-as (reader bytes (latest-of (running p good before)))) (front reads bytes (latest-of (running p good before))) refl
-      (λ after l. shown-on size reader reads most after (one-after number) (drop size bytes) l) h
+      (λ after l. listed size reader reads most after ((number + 1) % 2 ^ 64) (drop size bytes) l) h
+
+  -- The same of one listing's text.
+  pub record ShownBy (size : ℕ) (reader : Reader) (row : Row → List ℕ) (before : List Call) (number : ℕ) (bytes text : List ℕ) : Type 0 where
+    pub entries : List Entry
+    pub begins : BeginsBy size reader bytes (latest-of (running p good before)) entries
+    pub each : TakenOneByOne (running p good before) (calls-of entries)
+    pub rows : List Row
+    pub are-rows : Rows (meant p) before number entries rows
+    pub last : List ℕ
+    pub is-last : LastLine reader (stepped-through (running p good before) (calls-of entries)) (behind-by size entries bytes) (counted number entries) last
+    pub whole : text ≡ all-rows row rows ++ last
+
+  pub shown-by : {size : ℕ} {reader : Reader} {most : ℕ} {before : List Call} {number : ℕ} {bytes : List ℕ} → Listed size reader most before number bytes
+      → (L : Lister size reader) → ShownBy size reader (L .row) before number bytes (L .lines most (running p good before) number bytes)
+  shown-by r L =
+      record { entries = r .entries; begins = r .begins; each = r .each; rows = r .rows; are-rows = r .are-rows; last = r .last; is-last = r .is-last; whole = r .whole L }
 
 -- ---- the public calls of the listing
 
@@ -157,8 +217,20 @@ read-good property e =
     let r : Read.read-refusal property ≡ 0 = sym (refusal-read property) ∙ e in
     ap (λ (q : Property). property-refusal (meant q)) (property-of-read property r) ∙ not-refused property r
 
+pub listing-listed : (size : ℕ) (reader : Reader) → Reads size reader → (property records : List ℕ) (e : Read.read property .refusal ≡ 0)
+    → Listed (Read.read property .property) (read-good property e) size reader (suc (length records)) [] 0 records
+listing-listed size reader reads property records e =
+    listed (Read.read property .property) (read-good property e) size reader reads (suc (length records)) [] 0 records (omega arith)
+
 pub listing-shown : (size : ℕ) (reader : Reader) → Reads size reader → (property records : List ℕ) (e : Read.read property .refusal ≡ 0)
-    → ShownBy (Read.read property .property) (read-good property e) size reader [] 0 records (records-by size reader (fresh-of (Read.read property .property) .session) 0 records)
-unfolding stepped-through
+    → ShownBy (Read.read property .property) (read-good property e) size reader row-text [] 0 records (records-by size reader (fresh-of (Read.read property .property) .session) 0 records)
+unfolding stepped-through plain
 listing-shown size reader reads property records e =
-    shown-on (Read.read property .property) (read-good property e) size reader reads (suc (length records)) [] 0 records (omega arith)
+    shown-by (Read.read property .property) (read-good property e) (listing-listed size reader reads property records e) (plain size reader reads)
+
+-- Any other listing of the same records has the same rows, as it writes them, and the same last line.
+pub listing-beside : (size : ℕ) (reader : Reader) (reads : Reads size reader) (property records : List ℕ) (e : Read.read property .refusal ≡ 0) (L : Lister size reader)
+    → L .lines (suc (length records)) (fresh-of (Read.read property .property) .session) 0 records
+    ≡ all-rows (L .row) (listing-shown size reader reads property records e .rows) ++ listing-shown size reader reads property records e .last
+unfolding stepped-through listing-shown shown-by
+listing-beside size reader reads property records e L = listing-listed size reader reads property records e .whole L

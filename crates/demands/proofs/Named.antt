@@ -1,127 +1,111 @@
--- The listing with names has the rows of the listing without, and its last line.
-use Prim.Native.Nat.{ℕ, zero, suc, _+_}
-use mathlib.Core.Path.{_≡_, refl, sym, _∙_, ap, subst}
-use mathlib.Core.Bool.{Bool, true, false, cond}
-use mathlib.Core.List.{List, [], _∷_, _++_, append-assoc}
-use lib.ListN.{length, take, drop}
-use lib.Dec.{eqb, eqb·suc-zero}
+-- The listing with names is one of the same records (`Lister`), with a name in each row.
+use Prim.Native.Nat.{ℕ, zero, suc, _+_, _%_, _^_}
+use mathlib.Core.Path.{_≡_, refl, sym, _∙_, ap}
+use mathlib.Core.Bool.{false, cond}
+use mathlib.Core.List.{List, [], _∷_, _++_, append-nil}
+use lib.ListN.{take, drop}
 use Rattle.meaning.specs.Words.{Action}
-use Rattle.meaning.specs.Calls.{Call}
-use Rattle.property_form.specs.Read.{read}
-use Rattle.record_form.specs.Record.{record-size}
-use Rattle.cuts.specs.Fronts.{number-of}
+use Rattle.meaning.specs.Node.{Verdict, verdict-number}
+use Rattle.record_form.specs.Record.{RecordAnswer, record-answer}
+use Rattle.trace_form.specs.ReadAs.{ReadAs, read-as}
+use Rattle.trace_form.specs.Trace.{Entry, kind-of, action-of, stamp-of, entry-call}
+use Rattle.trace_form.proofs.Reader.{record-reads}
 use Rattle.session_record.specs.declared.Session.{Session}
-use Rattle.session_record.specs.Record.{count-of, out-of-range}
-use Rattle.session_record.specs.Step.{standing}
-use Rattle.walk.specs.Walk.{one-of}
-use Rattle.line_text.specs.Text.{text-of}
-use Rattle.printout.specs.Text.{header-text, stop-text}
+use Rattle.session_record.specs.Record.{latest-of, count-of, out-of-range}
+use Rattle.session_record.specs.Step.{standing, stepped-of}
+use Rattle.walk.specs.Walk.{One, one-call, one-read, one-of}
+use Rattle.printout.specs.Text.{end-text, stop-text}
 use Rattle.printout.specs.Named.{named-line-text}
-use Rattle.line_text.proofs.Held.{text-held}
 use Rattle.printed.specs.declared.Printed.{Printed}
-use Rattle.printed.specs.Printed.{kind-of, call-text, printed-of, opening-text, begun-of}
-use Rattle.printed.specs.Listing.{shown, and-more, lines-of, records-text, listing-of, lines-by, listing-by}
+use Rattle.printed.specs.Printed.{one-after, by-one, printed-of}
+use Rattle.printed.proofs.Listed.{not-named}
+use Rattle.named_text.specs.Text.{named-text-of, named-shown}
 use Rattle.named.specs.Named.{names-of, named-call-text, named-by-one, named-of}
-use Rattle.named.specs.Listing.{named-lines-of, named-log}
+use Rattle.named.specs.Listing.{named-lines-of}
 use Rattle.named.proofs.Fits.{named-held}
-use Rattle.named.proofs.Lines.{took, took-same, last-same}
-use Rattle.demands.specs.Names.{Row, name-by, plain-row, named-row, all-rows, SameRows}
+use Rattle.demands.specs.Texts.{Row, or-none, name-text, named-row-text, end-line, stop-line}
+use Rattle.demands.proofs.Texts.{demand-last, demand-named-line}
+use Rattle.demands.proofs.Listing.{Lister}
 
--- the row of a call that was taken
-row-of : ℕ → Call → Session → Row
-row-of number (Call.line l) after =
-    record { number = number; kind = kind-of (l .action); action = number-of (l .action); stamp = l .stamp; verdict = standing after; open-count = count-of after }
-row-of number (Call.mark g) after = record { number = number; kind = 2; action = g .lost; stamp = g .stamp; verdict = standing after; open-count = count-of after }
+-- the name of a record, and its line
+name-of : (Action → List ℕ) → Entry → List ℕ
+name-of names (Entry.input k t) = names (Action.input k)
+name-of names (Entry.output k t) = names (Action.output k)
+name-of names (Entry.gap n t) = []
 
-row-plain : (number : ℕ) (c : Call) (after : Session) → call-text number c after ≡ plain-row (row-of number c after)
-unfolding call-text row-of
-row-plain number (Call.line l) after = refl
-row-plain number (Call.mark g) after = refl
+name-shown : (names : Action → List ℕ) (e : Entry) → or-none (name-of names e) ≡ name-text names e
+unfolding name-of
+name-shown names (Entry.input k t) = refl
+name-shown names (Entry.output k t) = refl
+name-shown names (Entry.gap n t) = refl
 
-name-same : (names : Action → List ℕ) (a : Action) → names a ≡ name-by names (kind-of a) (number-of a)
-name-same names (Action.input k) = refl
-name-same names (Action.output k) = refl
-
-row-named : (names : Action → List ℕ) (number : ℕ) (c : Call) (after : Session) → named-call-text names number c after ≡ named-row names (row-of number c after)
-unfolding named-call-text row-of
-row-named names number (Call.line l) after =
-    ap (λ (name : List ℕ). named-line-text number (kind-of (l .action)) (number-of (l .action)) name (l .stamp) (standing after) (count-of after)) (name-same names (l .action))
-row-named names number (Call.mark g) after = refl
-
--- ---- one record more
+entry-line : (names : Action → List ℕ) (number : ℕ) (e : Entry) (after : Session)
+    → named-call-text names number (entry-call e) after ≡ named-line-text number (kind-of e) (action-of e) (name-of names e) (stamp-of e) (standing after) (count-of after)
+unfolding named-call-text name-of
+entry-line names number (Entry.input a t) after = refl
+entry-line names number (Entry.output a t) after = refl
+entry-line names number (Entry.gap n t) after = refl
 
 module _ (site release : List ℕ) where
   abbrev names : Action → List ℕ
   names = names-of site release
 
-  -- what stands behind a text, unless it was the last
-  abbrev added : List ℕ → Bool → List ℕ → List ℕ
-  added text more rest = text ++ cond more rest []
+  abbrev lines : ℕ → Session → ℕ → List ℕ → List ℕ
+  lines most s count bytes = named-lines-of site release most s count bytes
 
-  one-row : (plain named : List ℕ) (r : Row) → SameRows names plain named → SameRows names (plain-row r ++ plain) (named-row names r ++ named)
-  unfolding all-rows
-  one-row plain named r h =
-      record {
-        rows = r ∷ h .rows;
-        last = h .last;
-        without = ap (λ (x : List ℕ). plain-row r ++ x) (h .without) ∙ sym (append-assoc (plain-row r) (all-rows plain-row (h .rows)) (h .last));
-        with-names =
-            ap (λ (x : List ℕ). named-row names r ++ x) (h .with-names) ∙ sym (append-assoc (named-row names r) (all-rows (named-row names) (h .rows)) (h .last));
-      }
+  module _ (most : ℕ) (s : Session) (count : ℕ) (bytes : List ℕ) (fits : out-of-range s ≡ false) where
+    -- what a record adds, with all behind it, by what it does to the session
+    abbrev added : One → List ℕ
+    added o = named-by-one names count o ++ cond (by-one s count o .more) (lines most (by-one s count o .session) (by-one s count o .count) (drop 6 bytes)) []
 
-  no-row : (text : List ℕ) → SameRows names text text
-  unfolding all-rows
-  no-row text = record { rows = []; last = text; without = refl; with-names = refl }
+    by-read : (x : ReadAs) → read-as (record-answer bytes (latest-of s)) ≡ x → (o : One) → one-read s x ≡ o → lines (suc most) s count bytes ≡ added o
+    unfolding named-lines-of named-of
+    by-read x e o q =
+        let one : one-of s (take 6 bytes) ≡ o =
+        ap (λ (a : RecordAnswer). one-read s (read-as a)) (record-reads .front bytes (latest-of s)) ∙ ap (one-read s) e ∙ q in
+        let p : printed-of s count (take 6 bytes) ≡ by-one s count o = not-named record-answer s count (take 6 bytes) fits ∙ ap (by-one s count) one in
+        (λ i.
+        named-shown (named-text-of (cond (fits i) (stop-text count 10) (named-by-one names count (one i))))
+        ++ cond (p i .more) (lines most (p i .session) (p i .count) (drop 6 bytes)) [])
+        ∙ ap (λ (t : List ℕ). t ++ cond (by-one s count o .more) (lines most (by-one s count o .session) (by-one s count o .count) (drop 6 bytes)) [])
+        (named-held (named-by-one names count o))
 
-  module _ (s : Session) (count : ℕ) (bytes : List ℕ) where
-    abbrev r : Printed
-    r = printed-of s count bytes
+    pub ended : read-as (record-answer bytes (latest-of s)) ≡ ReadAs.end → lines (suc most) s count bytes ≡ end-line count
+    ended e = by-read ReadAs.end e One.ended (unfold one-read in refl) ∙ shows ∙ demand-last count 0 .0
+      where
+        shows : added One.ended ≡ end-text count
+        shows = unfold by-one named-by-one in (append-nil (end-text count))
 
-    -- what the record adds, with and without a name
-    step : (t : Bool) → r .more ≡ t → (plain named : List ℕ) → SameRows names plain named
-        → SameRows names (added (shown (r .text)) t plain) (added (cond (out-of-range s) (stop-text count 10) (named-by-one names count (one-of s bytes))) t named)
-    step true e plain named h =
-        let k = took s count bytes r refl e in
-        let c = k .line .call in
-        let after = k .line .after in
-        let p : shown (r .text) ≡ plain-row (row-of (r .count) c after) = ap shown (k .line .text) ∙ text-held (call-text (r .count) c after) ∙ row-plain (r .count) c after in
-        let n : cond (out-of-range s) (stop-text count 10) (named-by-one names count (one-of s bytes)) ≡ named-row names (row-of (r .count) c after) =
-        sym (took-same s count bytes names r k) ∙ row-named names (r .count) c after in
-        subst (λ (x : List ℕ). SameRows names (x ++ plain) (cond (out-of-range s) (stop-text count 10) (named-by-one names count (one-of s bytes)) ++ named)) (sym p)
-        (subst (λ (x : List ℕ). SameRows names (plain-row (row-of (r .count) c after) ++ plain) (x ++ named)) (sym n)
-        (one-row plain named (row-of (r .count) c after) h))
-    step false e plain named h =
-        let same = last-same s count bytes names r refl e in
-        subst (λ (x : List ℕ). SameRows names (x ++ []) (cond (out-of-range s) (stop-text count 10) (named-by-one names count (one-of s bytes)) ++ [])) (sym same)
-        (no-row (cond (out-of-range s) (stop-text count 10) (named-by-one names count (one-of s bytes)) ++ []))
+    pub refused : (x : ReadAs) → read-as (record-answer bytes (latest-of s)) ≡ x → (n : ℕ) → one-read s x ≡ One.refused n → lines (suc most) s count bytes ≡ stop-line count n
+    refused x e n q = by-read x e (One.refused n) q ∙ shows ∙ demand-last count n .1
+      where
+        shows : added (One.refused n) ≡ stop-text count n
+        shows = unfold by-one named-by-one in (append-nil (stop-text count n))
 
-  same-lines : (most : ℕ) (s : Session) (count : ℕ) (bytes : List ℕ) → SameRows names (lines-of most s count bytes) (named-lines-of site release most s count bytes)
-  unfolding lines-by named-lines-of named-of
-  same-lines zero s count bytes = no-row []
-  same-lines (suc most) s count bytes =
-      let front = take record-size bytes in
-      let p = printed-of s count front in
-      subst (λ (x : List ℕ). SameRows names (lines-of (suc most) s count bytes) (x ++ cond (p .more) (named-lines-of site release most (p .session) (p .count) (drop record-size bytes)) []))
-      (sym (named-held _))
-      (step s count front (p .more) refl _ _ (same-lines most (p .session) (p .count) (drop record-size bytes)))
+    pub called : (e : Entry) → read-as (record-answer bytes (latest-of s)) ≡ ReadAs.call (entry-call e) → stepped-of s (entry-call e) .answer .refusal ≡ 0
+        → (v : Verdict) → standing (stepped-of s (entry-call e) .session) ≡ verdict-number v
+        → lines (suc most) s count bytes
+        ≡ named-row-text names (record { number = (count + 1) % 2 ^ 64; entry = e; verdict = v; open-count = count-of (stepped-of s (entry-call e) .session) })
+        ++ lines most (stepped-of s (entry-call e) .session) ((count + 1) % 2 ^ 64) (drop 6 bytes)
+    called e q z v h = by-read (ReadAs.call (entry-call e)) q (One.took (entry-call e) after) is ∙ shows ∙ ap (λ (t : List ℕ). t ++ lines most after next (drop 6 bytes)) line
+      where
+        after : Session
+        after = stepped-of s (entry-call e) .session
 
-  -- ---- the property, and all behind it
+        next : ℕ
+        next = (count + 1) % 2 ^ 64
 
-  begun-same : (property : List ℕ) (n : ℕ) (plain named : List ℕ) → SameRows names plain named
-      → SameRows names (added (shown (text-of (opening-text n))) (eqb n 0) plain) (added (shown (text-of (opening-text n))) (eqb n 0) named)
-  begun-same property zero plain named h =
-      subst (λ (x : List ℕ). SameRows names (x ++ plain) (x ++ named)) (sym (text-held [])) h
-  begun-same property (suc n) plain named h =
-      subst (λ (t : Bool). SameRows names (added (shown (text-of (stop-text 0 (suc n)))) t plain) (added (shown (text-of (stop-text 0 (suc n)))) t named)) (sym (eqb·suc-zero n))
-      (no-row (shown (text-of (stop-text 0 (suc n))) ++ []))
+        is : one-read s (ReadAs.call (entry-call e)) ≡ One.took (entry-call e) after
+        is = unfold one-read one-call in (ap (one-call s (entry-call e)) z)
 
-  -- The log with names, and the listing's text behind its header.
-  pub same-log : (property records : List ℕ)
-      → (plain : List ℕ) × (listing-of property records ≡ header-text ++ plain) × SameRows names plain (named-log site release property records)
-  unfolding listing-by named-log begun-of
-  same-log property records =
-      let b = begun-of property in (
-        and-more b (records-text (b .session) (b .count) records),
-        refl,
-        begun-same property (read property .refusal) _ _ (same-lines (suc (length records)) (b .session) (b .count) records),
-      )
+        shows : added (One.took (entry-call e) after) ≡ named-call-text names next (entry-call e) after ++ lines most after next (drop 6 bytes)
+        shows = unfold by-one named-by-one one-after in refl
+
+        line : named-call-text names next (entry-call e) after ≡ named-row-text names (record { number = next; entry = e; verdict = v; open-count = count-of after })
+        line =
+            entry-line names next e after
+            ∙ ap (λ (w : ℕ). named-line-text next (kind-of e) (action-of e) (name-of names e) (stamp-of e) w (count-of after)) h
+            ∙ demand-named-line names (record { number = next; entry = e; verdict = v; open-count = count-of after }) (name-of names e) (name-shown names e)
+
+  unfoldable pub named-lister : Lister 6 record-answer
+  named-lister = record { row = named-row-text names; lines = lines; at-end = ended; at-refusal = refused; at-call = called }

@@ -1,17 +1,23 @@
 -- Document 02, CR 2, as theorems: the lists of names, `names::refused` and `names::name`, and the listing with names.
-use Prim.Native.Nat.{ℕ, zero, suc, _+_, _*_, _-_, _≤_, min}
-use mathlib.Core.Path.{_≡_, refl, sym, _∙_, ap, ap₂}
-use mathlib.Core.Bool.{Bool, true, false, _||_}
-use mathlib.Core.List.{List, [], _∷_, _++_}
+use Prim.Native.Nat.{ℕ, zero, suc, _+_, _*_, _-_, _^_, _≤_, _<_, min}
+use mathlib.Core.Path.{_≡_, refl, sym, _∙_, ap, ap₂, subst}
+use mathlib.Core.Bool.{Bool, true, false, cond, _||_}
+use mathlib.Core.List.{List, [], _∷_, _++_, append-assoc, append-nil}
 use native.Mathlib.Omega.{arith}
-use lib.ListN.{length, take, drop, length-take, length-drop}
+use lib.ListN.{length, take, drop, getD, length-append, length-take, length-drop}
 use lib.Seq.{getD-take}
-use lib.Dec.{ltb}
+use lib.Dec.{ltb, eqb, eqb·suc-zero}
 use borrow.Author.Tests.{ltb-true, ltb-false, lt-ltb, le-ltb}
 use Rattle.meaning.specs.Words.{Action}
 use Rattle.meaning.specs.Numbers.{given, first-of}
-use Rattle.record_form.specs.Record.{Bytes}
-use Rattle.name_list.specs.Names.{Entry, list-form, entries, list-broken, names-in, action-number, Rising}
+use Rattle.fields.specs.Fields.{digit, number, field, bits, at, packed, size, form}
+use Rattle.fields.proofs.Laws.{length-bits, number-add, number-at}
+use Rattle.fields.proofs.Packed.{field-byte, field-byte-first}
+use Rattle.property_form.specs.Read
+use Rattle.record_form.specs.Record.{Bytes, record-answer}
+use Rattle.trace_form.proofs.Reader.{record-reads}
+use Rattle.trace_form.proofs.Trace.{Bytes-drop}
+use Rattle.name_list.specs.Names.{Entry, EntryGood, entry-form, first-byte, list-form, entries, entries-read, list-broken, names-in, action-number, Rising}
 use Rattle.names.specs.Lookup.{names-refusal, span, wanted, choice, name-of, either-name}
 use Rattle.name_list.proofs.Good.{good-long}
 use Rattle.name_list.proofs.Packed.{good-packs, packed-good}
@@ -22,32 +28,123 @@ use Rattle.names.proofs.Places.{of-site, of-release, of-neither}
 -- entry.
 pub use Rattle.name_list.proofs.Packed.{one-packing as list-one-packing, one-entry}
 pub use Rattle.name_list.proofs.Meaning.{one-list}
-use Rattle.printout.specs.Text.{header-text, stop-text}
+use Rattle.printout.specs.Text.{stop-text}
 use Rattle.printout.specs.Named.{named-header-text}
+use Rattle.line_text.specs.Text.{text-of}
 use Rattle.line_text.proofs.Held.{text-held}
 use Rattle.session_record.specs.declared.Session.{Session}
+use Rattle.session_record.specs.Step.{fresh-of}
 use Rattle.walk.specs.Walk.{walk-of}
 use Rattle.printed.specs.declared.Printed.{Printed}
-use Rattle.printed.specs.Printed.{last-line, printed-of}
-use Rattle.printed.specs.Listing.{shown, listing-of}
+use Rattle.printed.specs.Printed.{last-line, printed-of, opening-text, begun-of}
+use Rattle.printed.specs.Listing.{shown, records-by, listing-of}
+use Rattle.printed.proofs.Whole.{listing-taken}
 use Rattle.named_text.specs.Text.{named-text-of}
 use Rattle.named.proofs.Lines.{last-same}
 use Rattle.named.specs.Named.{names-of, named-of}
 use Rattle.name_list.specs.Read.{list-size, list-refusal}
-use Rattle.named.specs.Listing.{list-at, behind-list, property-at, behind-property, unless-bad, named-log, named-listing-of}
+use Rattle.named.specs.Listing.{list-at, behind-list, property-at, behind-property, unless-bad, named-lines-of, named-log, named-listing-of}
 use Rattle.demands.specs.Refuses.{Refuses}
-use Rattle.demands.specs.Names.{SameRows}
-use Rattle.demands.proofs.Listing.{refused-shown}
-use Rattle.demands.proofs.Named.{same-log}
+use Rattle.demands.specs.Texts.{bytes, header, named-header, row-text, named-row-text, all-rows, stop-line}
+use Rattle.demands.specs.Names.{entry-bits, packed-list, list-front, list-behind, list-number, property-front, property-behind}
+use Rattle.demands.proofs.Texts.{demand-header, demand-last}
+use Rattle.demands.proofs.Listing.{ShownBy, refused-shown, read-good, listing-shown, listing-beside}
+use Rattle.demands.proofs.Named.{named-lister}
 
--- ==== A list. "A name list is packed entries .., with first bytes strictly rising": what is taken is the packing of its entries, which
--- keep the rules (`Rising`, `EntryGood`),
-pub list-taken : (list : List ℕ) → Bytes list → list-broken list ≡ false → (list ≡ list-form (entries list)) × Rising 0 (entries list) × (length list ≤ 8192)
-list-taken list small e = (good-packs list small e .packed, good-packs list small e .rising, good-long list e)
+-- ---- the bits of an entry
+
+module _ (d k n : ℕ) (hd : d < 2) (hk : k < 64) (hn : n < 256) where
+  abbrev a : List ℕ
+  a = bits 1 d
+
+  abbrev b : List ℕ
+  b = bits 1 0
+
+  abbrev c : List ℕ
+  c = bits 6 k
+
+  abbrev e : List ℕ
+  e = bits 8 n
+
+  abbrev l : List ℕ
+  l = a ++ b ++ c ++ e
+
+  long : length l ≡ 16
+  long =
+      omega (arith, length-append (a ++ b ++ c) e, length-append (a ++ b) c, length-append a b, length-bits 1 d, length-bits 1 0, length-bits 6 k, length-bits 8 n)
+
+  -- a field of it, by what stands before and behind
+  field-at : (before : List ℕ) (w v : ℕ) (behind : List ℕ) (i : ℕ) → l ≡ before ++ bits w v ++ behind → length before ≡ i → v < 2 ^ w → number (at l) i w ≡ v
+  field-at before w v behind i same size h =
+      ap₂ (λ (x : List ℕ) (m : ℕ). number (at x) m w) same (sym size) ∙ number-at before behind w v h
+
+  first-eight : number (at l) 0 8 ≡ 128 * d + k
+  first-eight =
+      number-add (at l) 0 1 7
+      ∙ ap₂ (λ (x y : ℕ). x * 2 ^ 7 + y)
+      (field-at [] 1 d (b ++ c ++ e) 0 (append-assoc (a ++ b) c e ∙ append-assoc a b (c ++ e) ∙ ap (λ (x : List ℕ). a ++ x) (sym (append-assoc b c e))) refl hd)
+      (number-add (at l) 1 1 6
+      ∙ ap₂ (λ (x y : ℕ). x * 2 ^ 6 + y)
+      (field-at a 1 0 (c ++ e) 1 (append-assoc (a ++ b) c e) (length-bits 1 d) (omega arith))
+      (field-at (a ++ b) 6 k e 2 refl (omega (arith, length-append a b, length-bits 1 d, length-bits 1 0)) hk))
+      ∙ (let z : d * 128 + (0 * 64 + k) ≡ 128 * d + k = omega arith in z)
+
+  next-eight : number (at l) 8 8 ≡ n
+  next-eight =
+      field-at (a ++ b ++ c) 8 n [] 8 (sym (append-nil l)) (omega (arith, length-append (a ++ b) c, length-append a b, length-bits 1 d, length-bits 1 0, length-bits 6 k)) hn
+
+  two-bytes : form l ≡ (128 * d + k) ∷ n ∷ []
+  unfolding form packed
+  two-bytes = ap (λ (m : ℕ). packed (at l) (size m)) long ∙ ap₂ (λ (x y : ℕ). x ∷ y ∷ []) first-eight next-eight
+
+entry-packed : (x : Entry) → EntryGood x → form (entry-bits (x .action) (length (x .name))) ++ x .name ≡ entry-form x
+entry-packed x good = ap (λ (f : List ℕ). f ++ x .name) (go (x .action) (good .action-fits))
+  where
+    short : length (x .name) < 256
+    short = omega (arith, good .most)
+
+    go : (y : Action) → action-number y ≤ 63 → form (entry-bits y (length (x .name))) ≡ first-byte y ∷ length (x .name) ∷ []
+    go (Action.input k) h =
+        two-bytes 0 k (length (x .name)) (omega arith) (omega (arith, h)) short
+        ∙ ap (λ (f : ℕ). f ∷ length (x .name) ∷ []) (let z : 128 * 0 + k ≡ k = omega arith in z)
+    go (Action.output k) h = two-bytes 1 k (length (x .name)) (omega arith) (omega (arith, h)) short
+
+list-packed : (least : ℕ) (es : List Entry) → Rising least es → packed-list es ≡ list-form es
+unfolding packed-list list-form Rising
+list-packed least [] h = refl
+list-packed least (x ∷ es) h = ap₂ _++_ (entry-packed x (h .1)) (list-packed (suc (first-byte (x .action))) es (h .2))
+
+-- ==== A list. "A name list is packed entries .., with first bytes strictly rising": what is taken is the packing of its entries, bit by bit,
+-- which keep the rules (`Rising`, `EntryGood`),
+pub list-taken : (list : List ℕ) → Bytes list → list-broken list ≡ false → (list ≡ packed-list (entries list)) × Rising 0 (entries list) × (length list ≤ 8192)
+list-taken list small e =
+    let g = good-packs list small e in
+    (g .packed ∙ sym (list-packed 0 (entries list) (g .rising)), g .rising, good-long list e)
 
 -- and any entries that keep them, in at most 8,192 bytes, are taken and read back. So nothing else is broken than what breaks a rule.
-pub list-back : (es : List Entry) → Rising 0 es → length (list-form es) ≤ 8192 → (list-broken (list-form es) ≡ false) × (entries (list-form es) ≡ es)
-list-back = packed-good
+pub list-back : (es : List Entry) → Rising 0 es → length (packed-list es) ≤ 8192 → (list-broken (packed-list es) ≡ false) × (entries (packed-list es) ≡ es)
+list-back es rising few =
+    let same = list-packed 0 es rising in
+    subst (λ (l : List ℕ). (list-broken l ≡ false) × (entries l ≡ es)) (sym same) (packed-good es rising (omega (arith, ap length same, few)))
+
+-- Two entries worked out: `?0 switch` is 00 06 and `!2 old-tile` 82 08, each before its name.
+abbrev pub two-names : List Entry
+two-names = record { action = Action.input 0; name = bytes "switch" } ∷ record { action = Action.output 2; name = bytes "old-tile" } ∷ []
+
+pub two-packed : packed-list two-names ≡ (0 ∷ 6 ∷ bytes "switch") ++ (130 ∷ 8 ∷ bytes "old-tile")
+unfolding packed-list form packed number bits digit
+two-packed = refl
+
+pub two-read : entries ((0 ∷ 6 ∷ bytes "switch") ++ (130 ∷ 8 ∷ bytes "old-tile")) ≡ two-names
+unfolding entries entries-read
+two-read = refl
+
+-- The two bytes in front of a list are its length, most significant first, as `name_list::size` answers it.
+pub size-read : (input : List ℕ) → Bytes input → list-size input ≡ field input 0 16
+size-read input small =
+    (let z : 256 * getD input 0 0 + getD input 1 0 ≡ getD input 0 0 * 2 ^ 8 + getD input 1 0 = omega arith in z)
+    ∙ ap (λ (n : ℕ). getD input 0 0 * 2 ^ 8 + n) (sym (field-byte input 1 (small 1)))
+    ∙ sym (field-byte-first input 0 8 (small 0))
 
 -- ==== `names::refused`: 3, 11, 12; `names::name` then hands back an empty part at the end of the release's list.
 pub demand-1-names : (site release : List ℕ) (output : Bool) (action : ℕ)
@@ -83,13 +180,11 @@ demand-name site release output action ss sr z =
       bytes = name-is site release ss sr output action z;
     }
 
--- ==== The lists of the second program: "Missing bytes of a list are 7 .. (7 stands before 11 and 12)". `name_list::refused` is given what
--- was read of the two bytes and of the list that they announce.
-pub demand-1-lists : (number : ℕ) (input : List ℕ)
+lists-by-size : (number : ℕ) (input : List ℕ)
     → list-refusal number (take 2 input) (list-at input)
     ≡ first-of (given 7 (ltb (length input) 2 || ltb (length input) (2 + list-size input))) (given number (list-broken (list-at input)))
 unfolding list-refusal
-demand-1-lists number input = ap (λ (t : Bool). first-of (given 7 t) (given number (list-broken (list-at input)))) (go (ltb (length input) 2) refl)
+lists-by-size number input = ap (λ (t : Bool). first-of (given 7 t) (given number (list-broken (list-at input)))) (go (ltb (length input) 2) refl)
   where
     short : (t : Bool) → ltb (length input) 2 ≡ t → ltb (length (take 2 input)) 2 ≡ t
     short true e = lt-ltb (length (take 2 input)) 2 (omega (arith, length-take 2 input, ltb-true (length input) 2 e))
@@ -113,12 +208,20 @@ demand-1-lists number input = ap (λ (t : Bool). first-of (given 7 t) (given num
         ∙ long (ltb-false (length input) 2 e) (ltb (length input) (2 + list-size input)) refl
         ∙ sym (ap (λ (t : Bool). t || ltb (length input) (2 + list-size input)) e)
 
+-- ==== The lists of the second program: "Missing bytes of a list are 7 .. (7 stands before 11 and 12)". `name_list::refused` is given what
+-- was read of the two bytes and of the list that they announce.
+pub demand-1-lists : (number : ℕ) (input : List ℕ) → Bytes input → list-refusal number (take 2 input) (list-front input) ≡ list-number number input
+demand-1-lists number input small =
+    subst
+    (λ (n : ℕ). list-refusal number (take 2 input) (take n (drop 2 input))
+    ≡ first-of (given 7 (ltb (length input) 2 || ltb (length input) (2 + n))) (given number (list-broken (take n (drop 2 input)))))
+    (size-read input small) (lists-by-size number input)
+
 -- a list that is not refused is not broken
-good : (number : ℕ) (head list : List ℕ) → list-refusal (suc number) head list ≡ 0 → list-broken list ≡ false
-unfolding list-refusal
-good number head list z = go (ltb (length head) 2 || ltb (length list) (list-size head)) (list-broken list) refl z
+good : (number : ℕ) (input : List ℕ) → list-number (suc number) input ≡ 0 → list-broken (list-front input) ≡ false
+good number input z = go (ltb (length input) 2 || ltb (length input) (2 + field input 0 16)) (list-broken (list-front input)) refl z
   where
-    go : (t b : Bool) → list-broken list ≡ b → first-of (given 7 t) (given (suc number) b) ≡ 0 → list-broken list ≡ false
+    go : (t b : Bool) → list-broken (list-front input) ≡ b → first-of (given 7 t) (given (suc number) b) ≡ 0 → list-broken (list-front input) ≡ false
     go true b e h = absurd (omega (arith, h))
     go false true e h = absurd (omega (arith, h))
     go false false e h = e
@@ -143,50 +246,128 @@ demand-1-named site release s count bytes n e =
     ∙ text-held (stop-text count (suc n)) in
     λ i. record { text = named-text-of (text i); session = p i .session; count = p i .count; more = p i .more }
 
+-- ---- the log behind the lists
+
+Bytes-take : (n : ℕ) (s : List ℕ) → Bytes s → Bytes (take n s)
+Bytes-take zero s h i = omega arith
+Bytes-take (suc n) [] h i = omega arith
+Bytes-take (suc n) (x ∷ s) h zero = h zero
+Bytes-take (suc n) (x ∷ s) h (suc i) = Bytes-take n s (λ j. h (suc j)) i
+
+front-bytes : (input : List ℕ) → Bytes input → Bytes (list-front input)
+front-bytes input h = Bytes-take (field input 0 16) (drop 2 input) (Bytes-drop 2 input h)
+
+behind-bytes : (input : List ℕ) → Bytes input → Bytes (list-behind input)
+behind-bytes input h = Bytes-drop (field input 0 16) (drop 2 input) (Bytes-drop 2 input h)
+
+module _ (site release property records : List ℕ) where
+  abbrev lines : List ℕ
+  lines = named-lines-of site release (suc (length records)) (fresh-of (Read.read property .property) .session) 0 records
+
+  log-refused : (n : ℕ) → Read.read property .refusal ≡ suc n → named-log site release property records ≡ stop-text 0 (suc n)
+  unfolding named-log begun-of
+  log-refused n e =
+      (λ i. shown (text-of (opening-text (e i))) ++ cond (eqb (e i) 0) lines [])
+      ∙ ap (λ (t : Bool). shown (text-of (stop-text 0 (suc n))) ++ cond t lines []) (eqb·suc-zero n)
+      ∙ append-nil _
+      ∙ text-held (stop-text 0 (suc n))
+
+  log-taken : Read.read property .refusal ≡ 0 → named-log site release property records ≡ lines
+  unfolding named-log begun-of
+  log-taken e = (λ i. shown (text-of (opening-text (e i))) ++ cond (eqb (e i) 0) lines []) ∙ ap (λ (t : List ℕ). t ++ lines) (text-held [])
+
+  -- the rows and the last line of the listing without names
+  all-named : (e : Read.read property .refusal ≡ 0)
+      → lines
+      ≡ all-rows (named-row-text (names-of site release)) (listing-shown 6 record-answer record-reads property records e .rows)
+      ++ listing-shown 6 record-answer record-reads property records e .last
+  unfolding named-lister
+  all-named e = listing-beside 6 record-answer record-reads property records e (named-lister site release)
+
 -- ==== The second program's listing, of all bytes that it is given: "The program judges the site's list, the release's list, then the rest;
 -- a bad list prints as a refused property does".
-module _ (input : List ℕ) where
+module _ (input : List ℕ) (small : Bytes input) where
   abbrev site : List ℕ
-  site = list-at input
+  site = list-front input
 
   abbrev release : List ℕ
-  release = list-at (behind-list input)
+  release = list-front (list-behind input)
 
   abbrev log : List ℕ
-  log = behind-list (behind-list input)
+  log = list-behind (list-behind input)
 
-  abbrev site-number : ℕ
-  site-number = list-refusal 11 (take 2 input) site
-
-  abbrev release-number : ℕ
-  release-number = list-refusal 12 (take 2 (behind-list input)) release
+  abbrev names : Action → List ℕ
+  names = names-of site release
 
   pub record Demand-named : Type 0 where
-    pub site-refused : (n : ℕ) → site-number ≡ suc n → named-listing-of input ≡ named-header-text ++ stop-text 0 (suc n)
-    pub release-refused : site-number ≡ 0 → (n : ℕ) → release-number ≡ suc n → named-listing-of input ≡ named-header-text ++ stop-text 0 (suc n)
-    -- "the same listing with one more field behind the action number",
-    pub taken : site-number ≡ 0 → release-number ≡ 0
-        → (plain named : List ℕ) × (listing-of (property-at log) (behind-property log) ≡ header-text ++ plain) × (named-listing-of input ≡ named-header-text ++ named)
-        × SameRows (names-of site release) plain named
+    pub site-refused : (n : ℕ) → list-number 11 input ≡ suc n → named-listing-of input ≡ named-header ++ stop-line 0 (suc n)
+    pub release-refused : list-number 11 input ≡ 0 → (n : ℕ) → list-number 12 (list-behind input) ≡ suc n → named-listing-of input ≡ named-header ++ stop-line 0 (suc n)
+    pub property-refused : list-number 11 input ≡ 0 → list-number 12 (list-behind input) ≡ 0 → (n : ℕ) → Read.read (property-front log) .refusal ≡ suc n
+        → named-listing-of input ≡ named-header ++ stop-line 0 (suc n)
+    -- "the same listing with one more field behind the action number": the rows and the last line of the listing without names,
+    pub taken : list-number 11 input ≡ 0 → list-number 12 (list-behind input) ≡ 0 → (e : Read.read (property-front log) .refusal ≡ 0)
+        → (plain : List ℕ) × (listing-of (property-front log) (property-behind log) ≡ header ++ plain)
+        × (shown : ShownBy (Read.read (property-front log) .property) (read-good (property-front log) e) 6 record-answer row-text [] 0 (property-behind log) plain)
+        × (named-listing-of input ≡ named-header ++ (all-rows (named-row-text names) (shown .rows) ++ shown .last))
     -- and the names are those of the lists.
-    pub names : site-number ≡ 0 → release-number ≡ 0 → Bytes site → Bytes release → (a : Action) → action-number a ≤ 63
-        → names-of site release a ≡ either-name (names-in site a) (names-in release a)
+    pub named : list-number 11 input ≡ 0 → list-number 12 (list-behind input) ≡ 0 → (a : Action) → action-number a ≤ 63
+        → names a ≡ either-name (names-in site a) (names-in release a)
 
   -- by the numbers of the two lists
   abbrev by : ℕ → ℕ → List ℕ
-  by m n = named-header-text ++ unless-bad m (unless-bad n (named-log site release (property-at log) (behind-property log)))
+  by m n = named-header ++ unless-bad m (unless-bad n (named-log site release (property-front log) (property-behind log)))
 
-  listed : (m n : ℕ) → site-number ≡ m → release-number ≡ n → named-listing-of input ≡ by m n
+  abbrev behind : List ℕ
+  behind = list-behind input
+
+  sized : named-listing-of input
+      ≡ named-header-text
+      ++ unless-bad (list-refusal 11 (take 2 input) site)
+      (unless-bad (list-refusal 12 (take 2 behind) release) (named-log site release (property-front log) (property-behind log)))
   unfolding named-listing-of
-  listed m n e f = ap₂ by e f
+  sized =
+      ap
+      (λ (m : ℕ).
+      let rest : List ℕ = drop m (drop 2 input) in
+      named-header-text
+      ++ unless-bad (list-refusal 11 (take 2 input) (take m (drop 2 input)))
+      (unless-bad (list-refusal 12 (take 2 rest) (list-at rest))
+      (named-log (take m (drop 2 input)) (list-at rest) (property-at (behind-list rest)) (behind-property (behind-list rest)))))
+      (size-read input small)
+      ∙ ap
+      (λ (n : ℕ).
+      named-header-text
+      ++ unless-bad (list-refusal 11 (take 2 input) site)
+      (unless-bad (list-refusal 12 (take 2 behind) (take n (drop 2 behind)))
+      (named-log site (take n (drop 2 behind)) (property-at (drop n (drop 2 behind))) (behind-property (drop n (drop 2 behind))))))
+      (size-read behind (behind-bytes input small))
+
+  listed : (m n : ℕ) → list-number 11 input ≡ m → list-number 12 behind ≡ n → named-listing-of input ≡ by m n
+  listed m n e f =
+      let x : list-refusal 11 (take 2 input) site ≡ m = demand-1-lists 11 input small ∙ e in
+      let y : list-refusal 12 (take 2 behind) release ≡ n = demand-1-lists 12 behind (behind-bytes input small) ∙ f in
+      sized ∙ (λ i. demand-header .1 i ++ unless-bad (x i) (unless-bad (y i) (named-log site release (property-front log) (property-behind log))))
+
+  stops : (n : ℕ) → stop-text 0 (suc n) ≡ stop-line 0 (suc n)
+  stops n = demand-last 0 (suc n) .1
 
   pub demand-named : Demand-named
   demand-named =
       record {
-        site-refused = λ n e. listed (suc n) release-number e refl;
-        release-refused = λ z n e. listed zero (suc n) z e;
-        taken = λ z y.
-            let same = same-log site release (property-at log) (behind-property log) in
-            (same .0, named-log site release (property-at log) (behind-property log), same .1, listed zero zero z y, same .2);
-        names = λ z y ss sr a h. names-by site release (good 10 (take 2 input) site z) (good 11 (take 2 (behind-list input)) release y) ss sr a h;
+        site-refused = λ n e. listed (suc n) (list-number 12 behind) e refl ∙ ap (λ (t : List ℕ). named-header ++ t) (stops n);
+        release-refused = λ z n e. listed zero (suc n) z e ∙ ap (λ (t : List ℕ). named-header ++ t) (stops n);
+        property-refused = λ z y n e.
+            listed zero zero z y ∙ ap (λ (t : List ℕ). named-header ++ t) (log-refused site release (property-front log) (property-behind log) n e ∙ stops n);
+        taken = λ z y e.
+            let property = property-front log in
+            let records = property-behind log in
+            let plain = records-by 6 record-answer (fresh-of (Read.read property .property) .session) 0 records in (
+              plain,
+              listing-taken 6 record-answer property records e ∙ ap (λ (h : List ℕ). h ++ plain) (demand-header .0),
+              listing-shown 6 record-answer record-reads property records e,
+              listed zero zero z y
+                  ∙ ap (λ (t : List ℕ). named-header ++ t) (log-taken site release property records e ∙ all-named site release property records e),
+            );
+        named = λ z y a h.
+            names-by site release (good 10 input z) (good 11 behind y) (front-bytes input small) (front-bytes behind (behind-bytes input small)) a h;
       }

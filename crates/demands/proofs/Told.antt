@@ -1,6 +1,6 @@
 -- A verdict once told stays told (document 02, CR 3), of the calls that run: the numbers that calls answer, that a walk's records
 -- leave and that a listing shows.
-use Prim.Native.Nat.{ℕ, suc, _+_, _*_, _≤_, _<_}
+use Prim.Native.Nat.{ℕ, suc, _+_, _*_, _%_, _^_, _≤_, _<_}
 use mathlib.Core.Path.{_≡_, refl, sym, _∙_, ap, subst}
 use mathlib.Core.Bool.{Bool, true, false}
 use mathlib.Core.List.{List, [], _∷_, _++_}
@@ -10,7 +10,7 @@ use Rattle.meaning.specs.Words.{Line, StampsFrom}
 use Rattle.meaning.specs.Words
 use Rattle.meaning.specs.Node.{Verdict, verdict-number, VerdictFor, IsVerdict}
 use Rattle.meaning.specs.Numbers.{property-refusal}
-use Rattle.meaning.specs.Calls.{Mark, Call, fresh, watched, kept, Standing, open-of}
+use Rattle.meaning.specs.Calls.{Mark, Call, fresh, watched, kept, Standing}
 use Rattle.meaning.specs.Step.{lengths, grown, cuts-answer}
 use Rattle.meaning.specs.History.{Event, fed, all-lines, Premises, highest, Quiet, NoMark, BreaksAfter}
 use Rattle.meaning.proofs.Lengths.{lengths-reading}
@@ -22,16 +22,15 @@ use Rattle.stays_told.proofs.Calls.{standing-stays, answers-stay, closed-not-ab
 use Rattle.property.specs.Meant.{meant}
 use Rattle.property.specs.declared.Property.{Property}
 use Rattle.record_form.specs.Record.{Reader}
-use Rattle.trace_form.specs.Trace.{Entry, kind-of, action-of, stamp-of, entry-call}
+use Rattle.trace_form.specs.Trace.{Entry, entry-call}
 use Rattle.session_record.specs.declared.Session.{Session}
 use Rattle.session_record.specs.Step.{standing, fresh-of, stepped-of, stepped-through}
 use Rattle.session_record.proofs.Steps.{step-refused, answer-refusal}
 use Rattle.session_record.proofs.Running.{running-answer}
-use Rattle.printout.specs.Text.{line-text}
-use Rattle.printed.specs.Printed.{one-after}
 use Rattle.demands.specs.Traces.{calls-of, TakenOneByOne}
-use Rattle.demands.specs.Listing.{Shows}
-use Rattle.demands.specs.Told.{Row, unless-gap, NotBelow, StayTold, told-by, walk-rows, rows-text, ShownRows}
+use Rattle.demands.specs.Texts.{Row}
+use Rattle.demands.specs.Listing.{Rows}
+use Rattle.demands.specs.Told.{Told, unless-gap, NotBelow, StayTold, told-by, walk-rows, told-rows}
 use Rattle.demands.proofs.Running.{through-append, running, seen, running-number, running-next, running-range, seen-taken}
 use Rattle.demands.proofs.Exact.{exact-kept, line-told, standing-told, says-blind}
 use Rattle.demands.proofs.Walks.{walk-over}
@@ -118,14 +117,14 @@ module _ (p : Property) (good : property-refusal (meant p) ≡ 0) where
   -- ---- rows
 
   -- the verdict of each row stands after its record
-  abbrev Stands : List Call → List Row → Type 0
+  abbrev Stands : List Call → List Told → Type 0
   Stands before [] = Unit {0}
   Stands before (r ∷ rows) =
       (v : Verdict) × Standing q (watched q fresh (before ++ entry-call (r .entry) ∷ [])) v × (r .verdict ≡ verdict-number v)
       × Stands (before ++ entry-call (r .entry) ∷ []) rows
 
   not-below : (calls : List Call) (n : ℕ) (v : Verdict) → Standing q (watched q fresh calls) v → watched q fresh calls .clock .is-blind ≡ false
-      → n ≤ verdict-number v → (rows : List Row) → Stands calls rows → NotBelow n rows
+      → n ≤ verdict-number v → (rows : List Told) → Stands calls rows → NotBelow n rows
   unfolding NotBelow
   not-below calls n v h o le [] st = tt
   not-below calls n v h o le (r ∷ rows) st = by (r .entry) st (λ l w k a m s. not-below (calls ++ Call.line l ∷ []) n w k a m rows s)
@@ -157,7 +156,7 @@ module _ (p : Property) (good : property-refusal (meant p) ≡ 0) where
       by true e = absurd (omega (arith, says-blind p good (watched q fresh calls) v e h, small))
 
   rows-stay : (calls : List Call) (n : ℕ) (v : Verdict) → Standing q (watched q fresh calls) v → n ≡ verdict-number v
-      → (rows : List Row) → Stands calls rows → StayTold n rows
+      → (rows : List Told) → Stands calls rows → StayTold n rows
   unfolding StayTold
   rows-stay calls n v h e [] st = tt
   rows-stay calls n v h e (r ∷ rows) st = (
@@ -166,7 +165,7 @@ module _ (p : Property) (good : property-refusal (meant p) ≡ 0) where
   )
 
   -- from the verdict standing on the session
-  rows-from : (calls : List Call) (rows : List Row) → Stands calls rows → StayTold (standing (running p good calls)) rows
+  rows-from : (calls : List Call) (rows : List Told) → Stands calls rows → StayTold (standing (running p good calls)) rows
   rows-from calls rows st = let v = standing-told p good calls in rows-stay calls (standing (running p good calls)) (v .0) (v .1) (v .2) rows st
 
   -- what a record tells is the verdict standing after it
@@ -199,27 +198,13 @@ module _ (p : Property) (good : property-refusal (meant p) ≡ 0) where
       → StayTold (standing (running p good calls)) (walk-rows (running p good calls) (walk-over (running p good calls) bytes budget (running-range p good calls) .entries))
   walk-stays calls bytes budget = rows-from calls _ (walk-stands calls _ (walk-over (running p good calls) bytes budget (running-range p good calls) .each))
 
-  shown-rows : (before : List Call) (number : ℕ) (entries : List Entry) (lines : List ℕ) → Shows q before number entries lines
-      → ShownRows q before number entries lines (Stands before)
-  unfolding rows-text
-  shown-rows before number [] lines h = record { rows = []; one-each = refl; shown = h; holds = tt }
-  shown-rows before number (e ∷ entries) lines h =
-      let r = shown-rows (before ++ entry-call e ∷ []) (one-after number) entries (h .1) (h .4) in
-      record {
-        rows = record { entry = e; verdict = verdict-number (h .0) } ∷ r .rows;
-        one-each = ap (λ (es : List Entry). e ∷ es) (r .one-each);
-        shown =
-            h .3
-            ∙ ap
-            (λ (t : List ℕ).
-            line-text (one-after number) (kind-of e) (action-of e) (stamp-of e) (verdict-number (h .0)) (open-of q (watched q fresh (before ++ entry-call e ∷ []))) ++ t)
-            (r .shown);
-        holds = (h .0, h .2, refl, r .holds);
-      }
+  rows-stand : (before : List Call) (number : ℕ) (entries : List Entry) (rows : List Row) → Rows q before number entries rows → Stands before (told-rows rows)
+  rows-stand before number [] rows h = subst (λ (r : List Row). Stands before (told-rows r)) (sym h) tt
+  rows-stand before number (e ∷ entries) rows h =
+      subst (λ (r : List Row). Stands before (told-rows r)) (sym (h .3))
+      (h .0, h .2, refl, rows-stand (before ++ entry-call e ∷ []) ((number + 1) % 2 ^ 64) entries (h .1) (h .4))
 
   -- nor does what a listing shows.
-  pub listing-stays : {size : ℕ} {reader : Reader} {before : List Call} {number : ℕ} {bytes text : List ℕ} (r : ShownBy p good size reader before number bytes text)
-      → ShownRows q before number (r .entries) (r .lines) (StayTold (standing (running p good before)))
-  listing-stays {before} {number} r =
-      let s = shown-rows before number (r .entries) (r .lines) (r .shows) in
-      record { rows = s .rows; one-each = s .one-each; shown = s .shown; holds = rows-from before (s .rows) (s .holds) }
+  pub listing-stays : {size : ℕ} {reader : Reader} {row : Row → List ℕ} {before : List Call} {number : ℕ} {bytes text : List ℕ} (r : ShownBy p good size reader row before number bytes text)
+      → StayTold (standing (running p good before)) (told-rows (r .rows))
+  listing-stays {before} {number} r = rows-from before (told-rows (r .rows)) (rows-stand before number (r .entries) (r .rows) (r .are-rows))

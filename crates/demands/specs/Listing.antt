@@ -1,19 +1,18 @@
 -- The listing, line by line, in the words of the rules.
-use Prim.Native.Nat.{ℕ, _+_, _*_, _-_, _≤_, _<_}
+use Prim.Native.Nat.{ℕ, _+_, _*_, _-_, _%_, _^_, _≤_, _<_}
 use mathlib.Core.Path.{_≡_}
 use mathlib.Core.Logic.{_⊎_}
 use mathlib.Core.List.{List, [], _∷_, _++_}
 use Rattle.meaning.specs.Words.{Property}
-use Rattle.meaning.specs.Node.{Verdict, verdict-number}
+use Rattle.meaning.specs.Node.{Verdict}
 use Rattle.meaning.specs.Calls.{Call, fresh, watched, Standing, open-of}
 use Rattle.record_form.specs.Record.{Reader}
 use Rattle.record_form.specs.Record
-use Rattle.trace_form.specs.Trace.{Entry, kind-of, action-of, stamp-of, entry-call}
+use Rattle.trace_form.specs.Trace.{Entry, entry-call}
 use Rattle.session_record.specs.declared.Session.{Session}
 use Rattle.session_record.specs.Record.{latest-of}
-use Rattle.printout.specs.Text.{line-text, end-text, stop-text}
-use Rattle.printed.specs.Printed.{one-after}
 use Rattle.demands.specs.Traces.{RefusedBy}
+use Rattle.demands.specs.Texts.{Row, end-line, stop-line}
 
 -- Decimal digits alone: 48 is "0", 57 is "9".
 unfoldable pub AllDigits : List ℕ → Type 0
@@ -37,17 +36,22 @@ pub record InDecimal (v : ℕ) (text : List ℕ) : Type 0 where
   pub no-zero-first : NoZeroFirst text
   pub reads : read-digits 0 text ≡ v
 
--- The lines of these records, after calls on a fresh session and `number` lines: "record number from 1; I, O or G; action; stamp;
--- verdict after it; number open".
-abbrev pub Shows : Property → List Call → ℕ → List Entry → List ℕ → Type 0
-Shows p before number [] text = text ≡ []
-Shows p before number (e ∷ entries) text =
-    (v : Verdict) × (rest : List ℕ) × Standing p (watched p fresh (before ++ entry-call e ∷ [])) v
-    × (text ≡ line-text (one-after number) (kind-of e) (action-of e) (stamp-of e) (verdict-number v) (open-of p (watched p fresh (before ++ entry-call e ∷ []))) ++ rest)
-    × Shows p (before ++ entry-call e ∷ []) (one-after number) entries rest
+-- The rows of these records, one for each, in order, after calls on a fresh session and `number` rows: "record number from 1; .. verdict after
+-- it; number open". The number is kept in 64 bits.
+abbrev pub Rows : Property → List Call → ℕ → List Entry → List Row → Type 0
+Rows p before number [] rows = rows ≡ []
+Rows p before number (e ∷ entries) rows =
+    (v : Verdict) × (rest : List Row) × Standing p (watched p fresh (before ++ entry-call e ∷ [])) v
+    × (rows ≡ record { number = (number + 1) % 2 ^ 64; entry = e; verdict = v; open-count = open-of p (watched p fresh (before ++ entry-call e ∷ [])) } ∷ rest)
+    × Rows p (before ++ entry-call e ∷ []) ((number + 1) % 2 ^ 64) entries rest
+
+-- The number of records after these.
+abbrev pub counted : ℕ → List Entry → ℕ
+counted number [] = number
+counted number (e ∷ entries) = counted ((number + 1) % 2 ^ 64) entries
 
 -- "The last line counts the records taken; after a refusal it is `stop`, the count and the refusal number instead."
 abbrev pub LastLine : Reader → Session → List ℕ → ℕ → List ℕ → Type 0
 LastLine reader s bytes count text =
-    ((reader bytes (latest-of s) ≡ Record.taken Record.end 0 (latest-of s)) × (text ≡ end-text count))
-    ⊎ ((n : ℕ) × RefusedBy reader s bytes n × (n ≡ 0 → ⊥) × (text ≡ stop-text count n))
+    ((reader bytes (latest-of s) ≡ Record.taken Record.end 0 (latest-of s)) × (text ≡ end-line count))
+    ⊎ ((n : ℕ) × RefusedBy reader s bytes n × (n ≡ 0 → ⊥) × (text ≡ stop-line count n))

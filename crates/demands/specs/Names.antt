@@ -1,40 +1,39 @@
--- The listing with names beside the one without: the same rows, and the same last line.
-use Prim.Native.Nat.{ℕ, zero, suc}
-use mathlib.Core.Path.{_≡_}
+-- Document 02, CR 2: a list of names, bit by bit, and the second program's input.
+use Prim.Native.Nat.{ℕ, _+_, _*_, _/_}
+use mathlib.Core.Bool.{_||_}
 use mathlib.Core.List.{List, [], _∷_, _++_}
+use lib.ListN.{length, take, drop}
+use lib.Dec.{ltb}
 use Rattle.meaning.specs.Words.{Action}
-use Rattle.printout.specs.Text.{line-text}
-use Rattle.printout.specs.Named.{named-line-text}
+use Rattle.meaning.specs.Numbers.{given, first-of}
+use Rattle.fields.specs.Fields.{field, bits, form}
+use Rattle.name_list.specs.Names.{Entry, list-broken}
 
--- What a line shows but for the name.
-pub record Row : Type 0 where
-  pub number : ℕ
-  pub kind : ℕ
-  pub action : ℕ
-  pub stamp : ℕ
-  pub verdict : ℕ
-  pub open-count : ℕ
+-- "1 bit direction, 1 zero bit, 6 bits action, then a length byte"; as in a property, "0 input, 1 output".
+abbrev pub entry-bits : Action → (size : ℕ) → List ℕ
+entry-bits (Action.input k) size = bits 1 0 ++ bits 1 0 ++ bits 6 k ++ bits 8 size
+entry-bits (Action.output k) size = bits 1 1 ++ bits 1 0 ++ bits 6 k ++ bits 8 size
 
--- "the name, or `-` where there is none or for a gap": 0 is an input, 1 an output, 2 a gap.
-abbrev pub name-by : (Action → List ℕ) → ℕ → ℕ → List ℕ
-name-by names zero action = names (Action.input action)
-name-by names (suc zero) action = names (Action.output action)
-name-by names (suc (suc other)) action = []
+-- "A name list is packed entries: .., then that many bytes"
+unfoldable pub packed-list : List Entry → List ℕ
+packed-list [] = []
+packed-list (e ∷ rest) = (form (entry-bits (e .action) (length (e .name))) ++ e .name) ++ packed-list rest
 
-abbrev pub plain-row : Row → List ℕ
-plain-row r = line-text (r .number) (r .kind) (r .action) (r .stamp) (r .verdict) (r .open-count)
+-- "the two lists, each behind two bytes of its length": the list at the front, and what stands behind it.
+abbrev pub list-front : List ℕ → List ℕ
+list-front input = take (field input 0 16) (drop 2 input)
 
-abbrev pub named-row : (Action → List ℕ) → Row → List ℕ
-named-row names r =
-    named-line-text (r .number) (r .kind) (r .action) (name-by names (r .kind) (r .action)) (r .stamp) (r .verdict) (r .open-count)
+abbrev pub list-behind : List ℕ → List ℕ
+list-behind input = drop (field input 0 16) (drop 2 input)
 
-unfoldable pub all-rows : (Row → List ℕ) → List Row → List ℕ
-all-rows text [] = []
-all-rows text (r ∷ rows) = text r ++ all-rows text rows
+-- "a bad list (7 if cut short)", with its number: 11 for the site's, 12 for the release's.
+abbrev pub list-number : ℕ → List ℕ → ℕ
+list-number number input =
+    first-of (given 7 (ltb (length input) 2 || ltb (length input) (2 + field input 0 16))) (given number (list-broken (list-front input)))
 
--- "the same listing with one more field behind the action number"
-pub record SameRows (names : Action → List ℕ) (plain named : List ℕ) : Type 0 where
-  pub rows : List Row
-  pub last : List ℕ
-  pub without : plain ≡ all-rows plain-row rows ++ last
-  pub with-names : named ≡ all-rows (named-row names) rows ++ last
+-- "then the input of the first program": the property at the front of it, of 122 + 7n bits, and the records behind it.
+abbrev pub property-front : List ℕ → List ℕ
+property-front log = take ((122 + 7 * field log 0 6 + 7) / 8) log
+
+abbrev pub property-behind : List ℕ → List ℕ
+property-behind log = drop ((122 + 7 * field log 0 6 + 7) / 8) log

@@ -1,17 +1,14 @@
 -- The verdicts that the records of a walk and the rows of a listing give, one after the other (document 02, CR 3).
 use Prim.Native.Nat.{ℕ, _≤_, _<_}
-use mathlib.Core.Path.{_≡_}
-use mathlib.Core.List.{List, [], _∷_, _++_, map}
-use Rattle.meaning.specs.Words.{Property}
-use Rattle.meaning.specs.Calls.{Call, fresh, watched, open-of}
-use Rattle.trace_form.specs.Trace.{Entry, kind-of, action-of, stamp-of, entry-call}
+use mathlib.Core.List.{List, [], _∷_, map}
+use Rattle.meaning.specs.Node.{verdict-number}
+use Rattle.trace_form.specs.Trace.{Entry, entry-call}
 use Rattle.session_record.specs.declared.Session.{Session}
 use Rattle.session_record.specs.Step.{stepped-of}
-use Rattle.printout.specs.Text.{line-text}
-use Rattle.printed.specs.Printed.{one-after}
+use Rattle.demands.specs.Texts.{Row}
 
 -- A record, and the number of the verdict after it.
-pub record Row : Type 0 where
+pub record Told : Type 0 where
   pub entry : Entry
   pub verdict : ℕ
 
@@ -21,12 +18,12 @@ unless-gap (Entry.input k t) A = A
 unless-gap (Entry.output k t) A = A
 unless-gap (Entry.gap k t) A = Unit {0}
 
-unfoldable pub NotBelow : ℕ → List Row → Type 0
+unfoldable pub NotBelow : ℕ → List Told → Type 0
 NotBelow n [] = Unit {0}
 NotBelow n (r ∷ rows) = unless-gap (r .entry) ((n ≤ r .verdict) × NotBelow n rows)
 
 -- Within a run no verdict falls: where a number is not 3 (blind), none up to the next gap is below it. n stood before the first row.
-unfoldable pub StayTold : ℕ → List Row → Type 0
+unfoldable pub StayTold : ℕ → List Told → Type 0
 StayTold n [] = Unit {0}
 StayTold n (r ∷ rows) = (n < 3 → NotBelow n (r ∷ rows)) × StayTold (r .verdict) rows
 
@@ -37,21 +34,10 @@ told-by s (Entry.output k t) = stepped-of s (entry-call (Entry.output k t)) .ans
 told-by s (Entry.gap k t) = 3
 
 -- The records that a walk takes, with what each would tell as a single call.
-unfoldable pub walk-rows : Session → List Entry → List Row
+unfoldable pub walk-rows : Session → List Entry → List Told
 walk-rows s [] = []
 walk-rows s (e ∷ entries) = record { entry = e; verdict = told-by s e } ∷ walk-rows (stepped-of s (entry-call e) .session) entries
 
--- The lines of a listing that show these rows, after calls on a fresh session and `number` lines.
-unfoldable pub rows-text : Property → List Call → ℕ → List Row → List ℕ
-rows-text p before number [] = []
-rows-text p before number (r ∷ rows) =
-    let e : Entry = r .entry in
-    let calls : List Call = before ++ entry-call e ∷ [] in
-    line-text (one-after number) (kind-of e) (action-of e) (stamp-of e) (r .verdict) (open-of p (watched p fresh calls)) ++ rows-text p calls (one-after number) rows
-
--- Lines of a listing show rows, one for each of these records, of which a thing holds.
-pub record ShownRows (p : Property) (before : List Call) (number : ℕ) (entries : List Entry) (lines : List ℕ) (Holds : List Row → Type 0) : Type 0 where
-  pub rows : List Row
-  pub one-each : map (λ (r : Row). r .entry) rows ≡ entries
-  pub shown : lines ≡ rows-text p before number rows
-  pub holds : Holds rows
+-- What the rows of a listing tell.
+abbrev pub told-rows : List Row → List Told
+told-rows rows = map (λ (r : Row). record { entry = r .entry; verdict = verdict-number (r .verdict) }) rows
