@@ -18,4 +18,5 @@ pub mod Same
 pub mod Named
 pub mod Names
 pub mod Told
+pub mod Placed
 pub mod Why

@@ -29,9 +29,10 @@ use Rattle.line_text.specs.Text.{decimal}
 use Rattle.reason_text.specs.Reason.{signed}
 use Rattle.demands.specs.Refuses.{Refuses}
 use Rattle.demands.specs.Listing.{InDecimal}
-use Rattle.demands.specs.Why.{Shown, ShownBy, FirstReached}
+use Rattle.demands.specs.Why.{InOrder, Shown, ShownBy, FirstReached}
 use Rattle.demands.proofs.Running.{running, running-number}
 use Rattle.demands.proofs.Digits.{decimal-reads}
+use Rattle.demands.proofs.Placed.{numbers-in-order}
 
 -- ==== Refusals: "the property's 1, 2, 3 and the lines' 3, 4, 5, 6 as a session gives them, then 13 .., then 9 ..; what is refused alters no
 -- list". 7 is for lists of a run that are not equally long.
@@ -125,6 +126,7 @@ shown p run Sort l m s =
       of-the-sort = s .is-first .fits .1;
       first = λ other e h. s .is-first .first other (e, h);
       numbers = subst (λ (x : List ℕ). Names run x (s .order)) (sym front) named;
+      in-order = subst (λ (x : List ℕ). InOrder x (s .order)) (sym front) (numbers-in-order run (s .order) (s .is-first .fits .0 .is-order));
       moments = subst (Earliest p (s .order)) (sym times) (s .earliest);
       numbers-stay = ap₂ (λ (n : ℕ) (x : List ℕ). drop n x) (sym numbers-long) (s .shown-numbers) ∙ over-rest (line-numbers run (s .order)) (l .numbers) ∙ ap (λ (n : ℕ). drop n (l .numbers)) numbers-long;
       moments-stay = ap₂ (λ (n : ℕ) (x : List ℤ). drop n x) (sym moments-long) (s .shown-moments) ∙ over-rest (s .moments) (l .moments) ∙ ap (λ (n : ℕ). drop n (l .moments)) moments-long;

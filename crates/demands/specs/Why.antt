@@ -2,12 +2,25 @@
 use Prim.Native.Nat.{ℕ, _<_}
 use mathlib.Core.Path.{_≡_}
 use mathlib.Core.Logic.{_⊎_}
-use mathlib.Core.List.{List}
+use mathlib.Core.List.{List, [], _∷_}
 use lib.ListN.{length, take, drop}
 use Rattle.meaning.specs.Words.{Property, Line, Run}
 use Rattle.meaning.specs.Node.{Explanation, Breaks, Verdict, IsVerdict}
-use Rattle.reasons.specs.Reasons.{Earliest, Sooner, Any, Names}
+use Rattle.reasons.specs.Reasons.{Earliest, Sooner, Any, Names, gets-in}
 use Rattle.first_order.specs.Search.{Pair}
+
+-- The number k of a line, beside the numbers of lines that stand behind it in an order: it is none of them, and of its own channel all are
+-- above it, since "inputs keep their order and outputs keep theirs".
+abbrev pub Before : ℕ → Line → List ℕ → List Line → Type 0
+Before k l [] lines = Unit {0}
+Before k l (n ∷ numbers) [] = Unit {0}
+Before k l (n ∷ numbers) (x ∷ lines) = (k ≡ n → ⊥) × (gets-in l ≡ gets-in x → k < n) × Before k l numbers lines
+
+-- Each number stands once, and the numbers rise within a channel.
+abbrev pub InOrder : List ℕ → List Line → Type 0
+InOrder [] lines = Unit {0}
+InOrder (k ∷ numbers) [] = Unit {0}
+InOrder (k ∷ numbers) (l ∷ lines) = Before k l numbers lines × InOrder numbers lines
 
 -- An order stands in a pair of lists.
 pub record Shown (p : Property) (run : Run) (Sort : List Line → Type 0) (before after : Pair) : Type 0 where
@@ -20,6 +33,7 @@ pub record Shown (p : Property) (run : Run) (Sort : List Line → Type 0) (befor
   pub first : (other : List Line) → Explanation p run other → Sort other → (order ≡ other) ⊎ Sooner order other
   -- "write out orders as line numbers with moments": the numbers are those of its lines,
   pub numbers : Names run (take (length run) (after .numbers)) order
+  pub in-order : InOrder (take (length run) (after .numbers)) order
   -- "moments are the earliest that the order allows",
   pub moments : Earliest p order (take (length run) (after .moments))
   -- and "unfilled places stay".
