@@ -1,6 +1,7 @@
 -- Demand 3's words: a full history, lost lines counted.
 use Prim.Native.Nat.{ℕ, _+_, _*_, _≤_, max}
 use mathlib.Core.Path.{_≡_}
+use mathlib.Core.Logic.{_⊎_}
 use mathlib.Core.List.{List, [], _∷_, _++_}
 use lib.ListN.{length}
 use Rattle.meaning.specs.Words.{Action, Property, Line, StampsFrom}
@@ -27,24 +28,30 @@ all-lines (Event.line l ∷ h) = l ∷ all-lines h
 all-lines (Event.lost l ∷ h) = l ∷ all-lines h
 all-lines (Event.mark g ∷ h) = all-lines h
 
--- "every lost line came, also at an equal stamp, after the last line taken before its gap mark, and is stamped .. no later than the mark":
--- no line is taken between a lost line and its mark.
-unfoldable pub MarkedBy : Line → List Event → Type 0
-MarkedBy l [] = ⊥
-MarkedBy l (Event.line k ∷ h) = ⊥
-MarkedBy l (Event.lost k ∷ h) = MarkedBy l h
-MarkedBy l (Event.mark g ∷ h) = l .stamp ≤ g .stamp
+-- "every lost line came, also at an equal stamp, after the last line taken before its gap mark, and is stamped .. no later than the mark".
+-- Its mark stands behind it in the log, and no line is taken between the two; other marks may stand between them:
+unfoldable pub MarkedBehind : Line → List Event → Type 0
+MarkedBehind l [] = ⊥
+MarkedBehind l (Event.line k ∷ h) = ⊥
+MarkedBehind l (Event.lost k ∷ h) = MarkedBehind l h
+MarkedBehind l (Event.mark g ∷ h) = (l .stamp ≤ g .stamp) ⊎ MarkedBehind l h
 
-unfoldable pub LostMarked : List Event → Type 0
-LostMarked [] = Unit {0}
-LostMarked (Event.line l ∷ h) = LostMarked h
-LostMarked (Event.lost l ∷ h) = MarkedBy l h × LostMarked h
-LostMarked (Event.mark g ∷ h) = LostMarked h
+-- or it is one of these marks, which stand before it in the log, as does then every line taken before the mark:
+unfoldable pub MarkedBefore : Line → List Mark → Type 0
+MarkedBefore l [] = ⊥
+MarkedBefore l (g ∷ marks) = (l .stamp ≤ g .stamp) ⊎ MarkedBefore l marks
+
+-- Every lost line among these events has its mark; `marks` stand before the events.
+unfoldable pub LostMarked : List Mark → List Event → Type 0
+LostMarked marks [] = Unit {0}
+LostMarked marks (Event.line l ∷ h) = LostMarked marks h
+LostMarked marks (Event.lost l ∷ h) = (MarkedBefore l marks ⊎ MarkedBehind l h) × LostMarked marks h
+LostMarked marks (Event.mark g ∷ h) = LostMarked (g ∷ marks) h
 
 -- The premises of demand 3. "stamped no earlier than that line" and "stamps never fall over the full history" are one: the
 -- stamps of lines never fall, lost lines counted. A line lost between two marks may be stamped below the first mark.
 pub record Premises (h : List Event) : Type 0 where
-  pub lost-marked : LostMarked h
+  pub lost-marked : LostMarked [] h
   pub never-fall : StampsFrom 0 (all-lines h)
 
 -- The highest stamp of "everything taken or marked", and of h.

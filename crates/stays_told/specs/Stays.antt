@@ -25,7 +25,7 @@ NeverFallsAfter p =
 -- "a verdict closed by a gap mark is not above the one that the same run followed by the lost lines would have had, under demand
 -- 3's premise on lost lines". The calls taken so far are what the watcher was fed of what was `logged`, a run is open, and a gap mark
 -- is answered with a. `behind` is what was logged behind the run, of any length: lines lost before the mark, the mark, lines lost
--- before further marks.
+-- behind it, further marks and the lines lost before or behind them.
 abbrev pub ClosedNotAbove : Property → Type 0
 ClosedNotAbove p =
     (calls : List Call) (logged behind : List Event) → kept p fresh calls ≡ fed logged → Premises (logged ++ behind)
