@@ -2,16 +2,16 @@
 -- `running p calls` is the session after any calls on a fresh one, `seen p calls` what those calls have come to by the rules.
 use Prim.Native.Nat.{ℕ, suc, _+_, _*_, _/_, _%_, _≤_, _<_, min}
 use mathlib.Core.Path.{_≡_, sym, _∙_, ap, ap₂}
-use mathlib.Core.Bool.{true, false}
+use mathlib.Core.Bool.{Bool, true, false, cond}
 use mathlib.Core.List.{List, [], _∷_, _++_}
 use native.Mathlib.Omega.{arith}
 use lib.ListN.{length}
 use lib.Dec.{ltb}
+use borrow.Author.Tests.{lt-ltb}
 use Rattle.meaning.specs.Words.{Line, Run, StampsFrom, Property as PropertyMeant}
 use Rattle.meaning.specs.Node.{Breaks, Verdict, VerdictFor, IsVerdict, verdict-number}
 use Rattle.meaning.specs.Numbers.{given, first-of, property-refusal}
 use Rattle.meaning.specs.Calls.{Mark, Call, fresh, watched, AllTaken, kept, Standing, open-of, Answer, IsAnswer, refusal}
-use Rattle.meaning.specs.Calls
 use Rattle.meaning.specs.Step.{lengths, grown, cuts-verdict, cuts-open, cuts-answer}
 use Rattle.meaning.specs.History.{Event, fed, all-lines, Premises, highest, Quiet, NoMark, BreaksAfter}
 use Rattle.meaning.proofs.Sets.{Reading}
@@ -33,18 +33,17 @@ use Rattle.tap_form.proofs.Reader.{tap-reads}
 use Rattle.cuts.specs.Steps.{fresh-by, refusal-by}
 use Rattle.session_record.specs.declared.Session.{Session}
 use Rattle.session_record.specs.Record.{record-of, cuts-of, out-of-range}
-use Rattle.session_record.specs.Step.{answer-of, refusal-of, fresh-of, stepped-of, no-session}
+use Rattle.session_record.specs.Step.{refusal-of, fresh-of, stepped-of}
 use Rattle.session_record.proofs.Steps.{step-refused, answer-refusal, fresh-refused, fresh-taken}
 use Rattle.session_record.proofs.Running.{running-answer}
 use Rattle.walk.specs.Walk.{walk-of, rest-start}
 use Rattle.stretch.specs.Judge.{judge-of, one-number}
 use Rattle.stretch.proofs.Judging.{one-long}
-use Rattle.line_text.specs.Text.{text-of}
-use Rattle.printed.specs.Printed.{printed-of}
 use Rattle.printed.specs.Listing.{records-by, listing-by}
 pub use Rattle.printed.proofs.Whole.{listing-taken, listing-refused, counted as listing-count}
 use Rattle.demands.specs.Refuses.{Refuses}
 use Rattle.demands.specs.Uses.{Use, session-through}
+use Rattle.demands.specs.Called.{zero-session}
 use Rattle.demands.specs.Traces.{first-met}
 use Rattle.demands.specs.Texts.{header, row-text, stop-line}
 use Rattle.demands.proofs.Running.{running, seen, running-number, running-range}
@@ -53,27 +52,39 @@ use Rattle.demands.proofs.Walks.{WalkedOver, walk-over, walk-named, wal
 use Rattle.demands.proofs.Judging.{JudgeTaken, judge-taken, judge-first, judge-alone, taken-apart}
 use Rattle.demands.proofs.Uses.{uses-are-calls}
 use Rattle.demands.proofs.Texts.{demand-header, demand-last}
-use Rattle.demands.proofs.Listing.{ShownBy, refused-shown, read-good, listing-shown}
+use Rattle.demands.proofs.Called.{zeros-called}
+use Rattle.demands.proofs.Listing.{ShownBy, read-good, listing-shown}
 use Rattle.demands.proofs.Forms.{fresh-number}
--- "Packed properties and traces read back as written, and only one packing of each is taken." Numbers of a listing are decimal.
-pub use Rattle.property_form.proofs.RoundTrip.{write-then-read as property-reads-back, read-then-write as property-writes-back, one-packing as property-one-packing}
+-- "Packed properties and traces read back as written, and only one packing of each is taken."
+pub use Rattle.property_form.proofs.RoundTrip.{write-then-read as property-reads-back, write-then-rest as property-rest-back, read-then-write as property-writes-back, one-packing as property-one-packing}
+pub use Rattle.record_form.proofs.RoundTrip.{write-then-read as record-reads-back, read-then-write as record-writes-back, record-one-packing}
 pub use Rattle.trace_form.proofs.Trace.{trace-reads-back, trace-writes-back, trace-one-packing}
 pub use Rattle.demands.proofs.Written.{written-trace}
-pub use Rattle.demands.proofs.Digits.{decimal-reads}
 pub use Rattle.demands.proofs.Forms.{begins-one-packing}
-pub use Rattle.demands.proofs.Packed.{demand-1-read-property, demand-1-write-property, demand-1-read-record, demand-1-write-record, demand-1-read-tap, demand-read-tap}
+-- What a reader takes, by the fields of the bytes, and how many bytes that is; its rest.
+pub use Rattle.demands.proofs.Packed.{demand-1-read-property, demand-read-property, demand-1-write-property, demand-1-read-record, demand-read-record, demand-1-write-record, demand-1-read-tap, demand-read-tap, rest-called}
 -- The tap card's records of true stamps are read back as the lines that they are of, and two traces that are read as the same lines are the
 -- same bytes (document 02, CR 4).
 pub use Rattle.tap_form.proofs.Card.{card-reads-back, card-writes-back, card-one-packing}
 pub use Rattle.demands.proofs.Same.{demand-tap}
--- Names (document 02, CR 2), in `Names`: the lists, `names::refused` and `name`, the listing with names.
-pub use Rattle.demands.proofs.Names.{list-taken, list-back, list-one-packing, one-list, one-entry, demand-1-names, demand-name, demand-1-lists, demand-1-named, demand-named}
+-- What is printed, in the documents' words (`Texts`), with decimal numbers; what a property and a record add to a listing, with names or without.
+pub use Rattle.demands.proofs.Digits.{decimal-reads}
+pub use Rattle.demands.proofs.Texts.{demand-header, demand-last, demand-line, demand-named-line, demand-reached, demand-placed, demand-alone}
+pub use Rattle.demands.proofs.Printed.{text-kept, demand-size, demand-begun, demand-printed, demand-named-record}
+-- Names (document 02, CR 2), in `Names`: the lists bit by bit, `names::refused` and `name`, the listing with names.
+pub use Rattle.demands.proofs.Names.{list-taken, list-back, list-one-packing, one-list, one-entry, two-packed, two-read, size-read, demand-1-names, demand-name, name-handed, demand-1-lists, demand-named}
+-- Why a run has its verdict (document 02, CR 6), in `Why`: `why::explain`, and the moments that are shown.
+pub use Rattle.demands.proofs.Why.{demand-1-why, as-a-session, demand-why, moment-reads, moment-below-reads}
 -- How many lines were lost (document 02, CR 7), in `Lost`: a gap's number read and written, `mark` and its refusals, that nothing depends on the
 -- number, and two walks joined.
 pub use Rattle.demands.proofs.Lost.{gap-read, gap-number, gap-written, demand-1-mark, same-watched, same-told, same-step, same-through, same-answers, same-walk, same-judge, demand-joined}
--- What is called (`Called`). A verdict once told stays told (document 02, CR 3): of the calls that run (`Told`), behind `running-3`.
-pub use Rattle.demands.proofs.Called.{kinds, own-call, line-called, mark-called, event-called}
+-- What is called, and what the session record holds after any calls.
+pub use Rattle.demands.proofs.Called.{kinds, own-call, line-called, mark-called, event-called, property-called, lines-called, name-called, record-called, stop-called, zeros-called}
+pub use Rattle.demands.proofs.Held.{running-holds, demand-10}
+-- A verdict once told stays told (document 02, CR 3): of the calls that run (`Told`), behind `running-3`.
 pub use Rattle.demands.proofs.Told.{told-stays, closed-stays, closed-history, line-stands, session-stays, walk-stays, listing-stays, refused-stays}
+-- Lost lines that demand 3's premises cover: behind their mark, and before the second of two marks.
+pub use Rattle.meaning.proofs.Histories.{mark-before-lost, second-mark-behind-lost}
 
 -- ==== Demand 2, over the meaning. "After each line taken while the watcher isn't blind, the verdict on the run is exact."
 module _ (p : PropertyMeant) (good : property-refusal p ≡ 0) where
@@ -147,17 +158,24 @@ module _ (p : PropertyMeant) (good : property-refusal p ≡ 0) where
 -- That each call ends is proved of every function. `Refuses number order Alone`: the number is the first of the table's order that
 -- holds, and where it is not 0 the whole answer, and all that was lent, is as `Alone` says.
 
--- `line` and `mark`, on any record, also one that no calls made: 10, then those of the step; zeros, and the session as it was.
+-- `line` and `mark`, on any record, also one that no calls made: 10 (`demand-10`), then those of the step; zeros, and the session as it was.
 pub demand-1 : (s : Session) (c : Call)
     → Refuses (stepped-of s c .answer .refusal) (first-of (given 10 (out-of-range s)) (refusal-by (s .property) (cuts-of s) c))
-    (λ n. stepped-of s c ≡ record { answer = answer-of (Calls.refused n); session = s })
+    (λ n. stepped-of s c ≡ record { answer = record { refusal = n; verdict = 0; open_count = 0 }; session = s })
 unfolding refusal-of
 demand-1 s c = record { first = answer-refusal s c; alone = λ n e. step-refused s c (suc n) (sym (answer-refusal s c) ∙ e) (λ z. omega arith) }
 
 -- `fresh`, and `property::refused`, whose number this is: 1, 2, 3; zeros, and a session of zeros. Taken, verdict 0 and no input held.
 pub demand-1-fresh : (p : Data.Property)
-    → Refuses (fresh-of p .answer .refusal) (property-refusal (meant p)) (λ n. fresh-of p ≡ record { answer = answer-of (Calls.refused n); session = no-session })
-demand-1-fresh p = record { first = fresh-number p; alone = λ n e. fresh-refused p (suc n) (sym (fresh-number p) ∙ e) (λ z. omega arith) }
+    → Refuses (fresh-of p .answer .refusal) (property-refusal (meant p))
+    (λ n. fresh-of p ≡ record { answer = record { refusal = n; verdict = 0; open_count = 0 }; session = zero-session })
+demand-1-fresh p =
+    record {
+      first = fresh-number p;
+      alone = λ n e.
+          fresh-refused p (suc n) (sym (fresh-number p) ∙ e) (λ z. omega arith)
+          ∙ ap (λ (s : Session). record { answer = record { refusal = suc n; verdict = 0; open_count = 0 }; session = s }) zeros-called;
+    }
 
 pub fresh-begins : (p : Data.Property) → property-refusal (meant p) ≡ 0
     → fresh-of p ≡ record { answer = record { refusal = 0; verdict = 0; open_count = 0 }; session = record-of p (fresh-by p) }
@@ -174,7 +192,8 @@ module _ (p : Data.Property) (good : property-refusal (meant p) ≡ 0) where
 
   -- the answer is the one of the rules, verdict and number open included, and no other is (demand 2),
   pub running-2 : (calls : List Call) (c : Call)
-      → (a : Answer) × IsAnswer (meant p) (seen p good calls) c a × (stepped-of (running p good calls) c .answer ≡ answer-of a)
+      → (a : Answer) × IsAnswer (meant p) (seen p good calls) c a
+      × (stepped-of (running p good calls) c .answer ≡ record { refusal = a .refusal; verdict = a .verdict; open_count = a .open-count })
   running-2 calls c = (cuts-answer (meant p) (lengths (meant p)) (grown (meant p) calls) c, demand-2 (meant p) good calls .answer c, running-answer p good calls c)
 
   -- and demand 3 holds of the number that the last line's call answers, where that line was taken: blind until the boundary,
@@ -214,14 +233,16 @@ module _ (p : Data.Property) (good : property-refusal (meant p) ≡ 0) where
       → WalkedOver (running p good calls) bytes (min budget 4_096) (walk-of (running p good calls) bytes budget)
   running-walk calls bytes budget = walk-over (running p good calls) bytes budget (running-range p good calls)
 
--- ==== The walk on any record, also one that no calls made: 10 first, whatever the budget, else as above; `walk_rest` begins behind it
+-- ==== The walk on any record, also one that no calls made: 10 first, whatever the budget, else as above; `walk_rest` begins behind it, and is the
+-- whole slice for a number that no walk of these bytes reads.
 pub record Demand-1-walk (s : Session) (bytes : List ℕ) (budget : ℕ) : Type 0 where
   pub named : out-of-range s ≡ true → walk-of s bytes budget ≡ record { taken = 0; stop = 2; refusal = 10; read = 0; lost = 0; session = s }
   pub walked : out-of-range s ≡ false → WalkedOver s bytes (min budget 4_096) (walk-of s bytes budget)
   pub rest : rest-start (length bytes) (walk-of s bytes budget .read) ≡ walk-of s bytes budget .read
+  pub no-rest : (read : ℕ) → length bytes < read → rest-start (length bytes) read ≡ 0
 
 pub demand-1-walk : (s : Session) (bytes : List ℕ) (budget : ℕ) → Demand-1-walk s bytes budget
-demand-1-walk s bytes budget = record { named = walk-named s bytes budget; walked = walk-over s bytes budget; rest = walk-rest s bytes budget }
+demand-1-walk s bytes budget = record { named = walk-named s bytes budget; walked = walk-over s bytes budget; rest = walk-rest s bytes budget; no-rest = λ read h. ap (λ (t : Bool). cond t 0 read) (lt-ltb (length bytes) read h) }
 
 -- ==== The judge: the first refusal met, in the order of document 01, and it stands alone. What is taken is one property's whole
 -- packing and one trace's, the count is the number of its records, each of them is taken from a fresh session, and the verdict's
@@ -281,10 +302,3 @@ demand-listing = listing-listed record-reads
 -- say, its records have the listing of document 01's (`demand-tap`, in `Same`).
 pub demand-tap-listing : (property records : List ℕ) → Demand-listing 5 tap-answer property records
 demand-tap-listing = listing-listed tap-reads
-
--- `printed::record` on any record: what the walk of one record refuses (10 first) is the number that its last line names.
-pub demand-1-printed : (s : Session) (count : ℕ) (bytes : List ℕ) (n : ℕ) → walk-of s bytes 1 .refusal ≡ suc n
-    → printed-of s count bytes ≡ record { text = text-of (stop-line count (suc n)); session = s; count = count; more = false }
-demand-1-printed s count bytes n e =
-    refused-shown s count bytes n e
-    ∙ ap (λ (t : List ℕ). record { text = text-of t; session = s; count = count; more = false }) (demand-last count (suc n) .1)

@@ -6,6 +6,7 @@ pub mod Walks
 pub mod Uses
 pub mod Lost
 pub mod Called
+pub mod Held
 pub mod Judged
 pub mod Judging
 pub mod Written
@@ -16,6 +17,7 @@ pub mod Texts
 pub mod Listing
 pub mod Same
 pub mod Named
+pub mod Printed
 pub mod Names
 pub mod Told
 pub mod Placed

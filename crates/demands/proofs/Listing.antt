@@ -56,6 +56,19 @@ pub record Lister (size : ℕ) (reader : Reader) : Type 0 where
       ≡ row (record { number = (count + 1) % 2 ^ 64; entry = e; verdict = v; open-count = count-of (stepped-of s (entry-call e) .session) })
       ++ lines most (stepped-of s (entry-call e) .session) ((count + 1) % 2 ^ 64) (drop size bytes)
 
+-- the line of a record's call, with the verdict standing after it
+pub entry-text : (number : ℕ) (e : Entry) (after : Session) (v : Verdict) → standing after ≡ verdict-number v
+    → call-text number (entry-call e) after ≡ row-text (record { number = number; entry = e; verdict = v; open-count = count-of after })
+entry-text number e after v h =
+    text e
+    ∙ ap (λ (w : ℕ). line-text number (kind-of e) (action-of e) (stamp-of e) w (count-of after)) h
+    ∙ demand-line (record { number = number; entry = e; verdict = v; open-count = count-of after })
+  where
+    text : (e : Entry) → call-text number (entry-call e) after ≡ line-text number (kind-of e) (action-of e) (stamp-of e) (standing after) (count-of after)
+    text (Entry.input a t) = unfold call-text in refl
+    text (Entry.output a t) = unfold call-text in refl
+    text (Entry.gap n t) = unfold call-text in refl
+
 -- The listing without names is one.
 pub plain : (size : ℕ) (reader : Reader) → Reads size reader → Lister size reader
 plain size reader reads =
@@ -67,12 +80,6 @@ plain size reader reads =
       at-call = called;
     }
   where
-    text : (number : ℕ) (e : Entry) (after : Session)
-        → call-text number (entry-call e) after ≡ line-text number (kind-of e) (action-of e) (stamp-of e) (standing after) (count-of after)
-    text number (Entry.input a t) after = unfold call-text in refl
-    text number (Entry.output a t) after = unfold call-text in refl
-    text number (Entry.gap n t) after = unfold call-text in refl
-
     called : (most : ℕ) (s : Session) (count : ℕ) (bytes : List ℕ) → out-of-range s ≡ false → (e : Entry)
         → read-as (reader bytes (latest-of s)) ≡ ReadAs.call (entry-call e) → stepped-of s (entry-call e) .answer .refusal ≡ 0
         → (v : Verdict) → standing (stepped-of s (entry-call e) .session) ≡ verdict-number v
@@ -84,9 +91,7 @@ plain size reader reads =
         unfold one-after in
         (took-line size reader reads most s count bytes fits (entry-call e) q z
         ∙ ap (λ (t : List ℕ). t ++ lines-by size reader most after ((count + 1) % 2 ^ 64) (drop size bytes))
-        (text ((count + 1) % 2 ^ 64) e after
-        ∙ ap (λ (w : ℕ). line-text ((count + 1) % 2 ^ 64) (kind-of e) (action-of e) (stamp-of e) w (count-of after)) h
-        ∙ demand-line (record { number = (count + 1) % 2 ^ 64; entry = e; verdict = v; open-count = count-of after })))
+        (entry-text ((count + 1) % 2 ^ 64) e after v h))
 
 module _ (p : Property) (good : property-refusal (meant p) ≡ 0) where
   -- the number held is the number that Room counts

@@ -46,6 +46,14 @@ entry-line names number (Entry.input a t) after = refl
 entry-line names number (Entry.output a t) after = refl
 entry-line names number (Entry.gap n t) after = refl
 
+-- with the verdict standing after it
+pub named-entry-text : (names : Action → List ℕ) (number : ℕ) (e : Entry) (after : Session) (v : Verdict) → standing after ≡ verdict-number v
+    → named-call-text names number (entry-call e) after ≡ named-row-text names (record { number = number; entry = e; verdict = v; open-count = count-of after })
+named-entry-text names number e after v h =
+    entry-line names number e after
+    ∙ ap (λ (w : ℕ). named-line-text number (kind-of e) (action-of e) (name-of names e) (stamp-of e) w (count-of after)) h
+    ∙ demand-named-line names (record { number = number; entry = e; verdict = v; open-count = count-of after }) (name-of names e) (name-shown names e)
+
 module _ (site release : List ℕ) where
   abbrev names : Action → List ℕ
   names = names-of site release
@@ -87,7 +95,7 @@ module _ (site release : List ℕ) where
         → lines (suc most) s count bytes
         ≡ named-row-text names (record { number = (count + 1) % 2 ^ 64; entry = e; verdict = v; open-count = count-of (stepped-of s (entry-call e) .session) })
         ++ lines most (stepped-of s (entry-call e) .session) ((count + 1) % 2 ^ 64) (drop 6 bytes)
-    called e q z v h = by-read (ReadAs.call (entry-call e)) q (One.took (entry-call e) after) is ∙ shows ∙ ap (λ (t : List ℕ). t ++ lines most after next (drop 6 bytes)) line
+    called e q z v h = by-read (ReadAs.call (entry-call e)) q (One.took (entry-call e) after) is ∙ shows ∙ ap (λ (t : List ℕ). t ++ lines most after next (drop 6 bytes)) (named-entry-text names next e after v h)
       where
         after : Session
         after = stepped-of s (entry-call e) .session
@@ -100,12 +108,6 @@ module _ (site release : List ℕ) where
 
         shows : added (One.took (entry-call e) after) ≡ named-call-text names next (entry-call e) after ++ lines most after next (drop 6 bytes)
         shows = unfold by-one named-by-one one-after in refl
-
-        line : named-call-text names next (entry-call e) after ≡ named-row-text names (record { number = next; entry = e; verdict = v; open-count = count-of after })
-        line =
-            entry-line names next e after
-            ∙ ap (λ (w : ℕ). named-line-text next (kind-of e) (action-of e) (name-of names e) (stamp-of e) w (count-of after)) h
-            ∙ demand-named-line names (record { number = next; entry = e; verdict = v; open-count = count-of after }) (name-of names e) (name-shown names e)
 
   unfoldable pub named-lister : Lister 6 record-answer
   named-lister = record { row = named-row-text names; lines = lines; at-end = ended; at-refusal = refused; at-call = called }

@@ -7,6 +7,7 @@ use native.Mathlib.Omega.{arith}
 use lib.ListN.{length, take, drop, getD, length-append, length-take, length-drop}
 use lib.Seq.{getD-take}
 use lib.Dec.{ltb, eqb, eqb·suc-zero}
+use denote.Ref.{RefT, ptr, now}
 use borrow.Author.Tests.{ltb-true, ltb-false, lt-ltb, le-ltb}
 use Rattle.meaning.specs.Words.{Action}
 use Rattle.meaning.specs.Numbers.{given, first-of}
@@ -18,7 +19,7 @@ use Rattle.record_form.specs.Record.{Bytes, record-answer}
 use Rattle.trace_form.proofs.Reader.{record-reads}
 use Rattle.trace_form.proofs.Trace.{Bytes-drop}
 use Rattle.name_list.specs.Names.{Entry, EntryGood, entry-form, first-byte, list-form, entries, entries-read, list-broken, names-in, action-number, Rising}
-use Rattle.names.specs.Lookup.{names-refusal, span, wanted, choice, name-of, either-name}
+use Rattle.names.specs.Lookup.{names-refusal, span, wanted, choice, Handed, name-of, either-name}
 use Rattle.name_list.proofs.Good.{good-long}
 use Rattle.name_list.proofs.Packed.{good-packs, packed-good}
 use Rattle.names.proofs.Handing.{number-is, choice-refused}
@@ -180,6 +181,11 @@ demand-name site release output action ss sr z =
       bytes = name-is site release ss sr output action z;
     }
 
+-- What is handed back for such a part is the same bytes of that list, so many places on.
+pub name-handed : (of-site : Bool) (start size : ℕ) (site release r : RefT (List ℕ)) → Handed (record { of-site = of-site; part = span start size }) site release r
+    → (ptr r ≡ (ptr (cond of-site site release) .0, ptr (cond of-site site release) .1 + start)) × (now r ≡ take size (drop start (now (cond of-site site release))))
+name-handed of-site start size site release r h = (h .place, h .bytes)
+
 lists-by-size : (number : ℕ) (input : List ℕ)
     → list-refusal number (take 2 input) (list-at input)
     ≡ first-of (given 7 (ltb (length input) 2 || ltb (length input) (2 + list-size input))) (given number (list-broken (list-at input)))
@@ -233,18 +239,6 @@ names-by site release gs gr ss sr (Action.input k) h =
     name-is site release ss sr false k (number-is site release k false false false (le-ltb 63 k h) gs gr)
 names-by site release gs gr ss sr (Action.output k) h =
     name-is site release ss sr true k (number-is site release k false false false (le-ltb 63 k h) gs gr)
-
--- `named::record` on any session record, also one that no calls made: what the walk of one record refuses (10 first) is the number that
--- its last line names, whatever the lists, and the session and the count are as they were.
-pub demand-1-named : (site release : List ℕ) (s : Session) (count : ℕ) (bytes : List ℕ) (n : ℕ) → walk-of s bytes 1 .refusal ≡ suc n
-    → named-of site release s count bytes ≡ record { text = named-text-of (stop-text count (suc n)); session = s; count = count; more = false }
-unfolding named-of
-demand-1-named site release s count bytes n e =
-    let p : printed-of s count bytes ≡ last-line s count (stop-text count (suc n)) = refused-shown s count bytes n e in
-    let text = sym (last-same s count bytes (names-of site release) (printed-of s count bytes) refl (ap (λ (r : Printed). r .more) p))
-    ∙ ap (λ (r : Printed). shown (r .text)) p
-    ∙ text-held (stop-text count (suc n)) in
-    λ i. record { text = named-text-of (text i); session = p i .session; count = p i .count; more = p i .more }
 
 -- ---- the log behind the lists
 

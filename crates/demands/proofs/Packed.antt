@@ -4,7 +4,8 @@ use mathlib.Core.Path.{_≡_, refl, sym, _∙_, ap, subst}
 use mathlib.Core.Bool.{not, cond, _&&_, _||_}
 use mathlib.Core.List.{List}
 use native.Mathlib.Omega.{arith}
-use lib.ListN.{length}
+use lib.ListN.{length, drop}
+use denote.Ref.{RefT, ptr, now}
 use lib.Dec.{ltb, eqb}
 use Rattle.meaning.specs.Words.{Property as PropertyMeant}
 use Rattle.meaning.specs.Numbers.{given, first-of, property-refusal}
@@ -19,6 +20,7 @@ use Rattle.property_form.proofs.Answers.{read-refused, taken-none, taken-all, r
 use Rattle.property_form.proofs.Laws.{digit-mask}
 use Rattle.property_form.proofs.ReadBits.{action-read, sequence-read}
 use Rattle.fields.specs.Fields.{digit, bit, field}
+use Rattle.fields.specs.Rest.{Rest}
 use Rattle.fields.proofs.Laws.{bit-lt, field-lt}
 use Rattle.record_form.specs.Record.{record-answer, read-refusal, fields-refusal, bytes-read, broken, stamp-above, write-refusal}
 use Rattle.record_form.specs.Record
@@ -119,3 +121,7 @@ unfolding tap-stamp since
 demand-read-tap s before e =
     let none = sym (tap-number s before) ∙ e in
     (tap-taken s before none, tap-size-taken s before none)
+
+-- "hands back the unread rest of the caller's own bytes": a rest behind n bytes is the same bytes, n places on.
+pub rest-called : (n : ℕ) (s r : RefT (List ℕ)) → Rest n s r → (ptr r ≡ (ptr s .0, ptr s .1 + n)) × (now r ≡ drop n (now s))
+rest-called n s r h = (h .place, h .bytes)
