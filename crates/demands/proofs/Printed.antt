@@ -1,5 +1,5 @@
 -- `printed::size`, `begin` and `record`, and `named::record`, on any session record: what each adds to a listing, in the documents' words.
-use Prim.Native.Nat.{ℕ, suc, _+_, _-_, _*_, _/_, _%_, _^_}
+use Prim.Native.Nat.{ℕ, suc, _+_, _-_, _%_, _^_}
 use mathlib.Core.Path.{_≡_, refl, sym, _∙_, ap, ap₂}
 use mathlib.Core.Bool.{true, false, cond}
 use mathlib.Core.List.{List, [], _∷_, _++_}
@@ -30,6 +30,7 @@ use Rattle.named_text.specs.Text.{named-text-of}
 use Rattle.named.specs.declared.Named.{Named}
 use Rattle.named.specs.Named.{names-of, named-by-one, named-of}
 use Rattle.named.proofs.Lines.{last-same}
+use Rattle.demands.specs.Packed.{property-bytes}
 use Rattle.demands.specs.Texts.{Row, row-text, named-row-text, end-line, stop-line}
 use Rattle.demands.proofs.Texts.{demand-last, demand-line}
 use Rattle.demands.proofs.Listing.{entry-text, refused-shown}
@@ -42,7 +43,7 @@ unfolding text-of named-text-of
 text-kept l = (refl, refl)
 
 -- `printed::size`: a property's first byte has its length n, and it takes 122 + 7n bits, "to a full byte";
-pub demand-size : (s : List ℕ) → form-size (length-read s) ≡ (122 + 7 * field s 0 6 + 7) / 8
+pub demand-size : (s : List ℕ) → form-size (length-read s) ≡ property-bytes (field s 0 6)
 demand-size s = refl
 
 -- `begin`: "A refused property prints the header and `stop 0` with its number"; one that is taken, the header alone.

@@ -1,5 +1,5 @@
 -- Document 02, CR 2: a list of names, bit by bit, and the second program's input.
-use Prim.Native.Nat.{ℕ, _+_, _*_, _/_}
+use Prim.Native.Nat.{ℕ, _+_}
 use mathlib.Core.Bool.{_||_}
 use mathlib.Core.List.{List, [], _∷_, _++_}
 use lib.ListN.{length, take, drop}
@@ -8,6 +8,7 @@ use Rattle.meaning.specs.Words.{Action}
 use Rattle.meaning.specs.Numbers.{given, first-of}
 use Rattle.fields.specs.Fields.{field, bits, form}
 use Rattle.name_list.specs.Names.{Entry, list-broken}
+use Rattle.demands.specs.Packed.{property-bytes}
 
 -- "1 bit direction, 1 zero bit, 6 bits action, then a length byte"; as in a property, "0 input, 1 output".
 abbrev pub entry-bits : Action → (size : ℕ) → List ℕ
@@ -33,7 +34,7 @@ list-number number input =
 
 -- "then the input of the first program": the property at the front of it, of 122 + 7n bits, and the records behind it.
 abbrev pub property-front : List ℕ → List ℕ
-property-front log = take ((122 + 7 * field log 0 6 + 7) / 8) log
+property-front log = take (property-bytes (field log 0 6)) log
 
 abbrev pub property-behind : List ℕ → List ℕ
-property-behind log = drop ((122 + 7 * field log 0 6 + 7) / 8) log
+property-behind log = drop (property-bytes (field log 0 6)) log
