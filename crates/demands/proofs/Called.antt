@@ -22,7 +22,7 @@ use Rattle.kept.specs.declared.Event.the-variants as Kept
 use Rattle.walk.specs.Walk.{stop-number, stop-refusal}
 use Rattle.walk.specs.declared.Stop.the-variants.{Budget, End, Refused}
 use Rattle.names.specs.Lookup.{wanted}
-use Rattle.judged_rest.specs.Lent.{Lines, line-in, run-of}
+use Rattle.judged_rest.specs.Lent.{Lines, run-of}
 use Rattle.demands.specs.Called.{action-if, zero-session}
 use Rattle.demands.specs.Traces.{entry-of}
 

@@ -74,6 +74,7 @@ pub use Rattle.demands.proofs.Printed.{text-kept, demand-size, demand-b
 -- Names (document 02, CR 2), in `Names`: the lists bit by bit, `names::refused` and `name`, the listing with names.
 pub use Rattle.demands.proofs.Names.{list-taken, list-back, list-one-packing, one-list, one-entry, two-packed, two-read, size-read, demand-1-names, demand-name, name-handed, demand-1-lists, demand-named}
 -- Why a run has its verdict (document 02, CR 6), in `Why`: `why::explain`, and the moments that are shown.
+pub use Rattle.demands.proofs.Placed.{not-twice}
 pub use Rattle.demands.proofs.Why.{demand-1-why, as-a-session, demand-why, moment-reads, moment-below-reads}
 -- How many lines were lost (document 02, CR 7), in `Lost`: a gap's number read and written, `mark` and its refusals, that nothing depends on the
 -- number, and two walks joined.

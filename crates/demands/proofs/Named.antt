@@ -1,8 +1,8 @@
 -- The listing with names is one of the same records (`Lister`), with a name in each row.
-use Prim.Native.Nat.{ℕ, zero, suc, _+_, _%_, _^_}
-use mathlib.Core.Path.{_≡_, refl, sym, _∙_, ap}
+use Prim.Native.Nat.{ℕ, suc, _+_, _%_, _^_}
+use mathlib.Core.Path.{_≡_, refl, _∙_, ap}
 use mathlib.Core.Bool.{false, cond}
-use mathlib.Core.List.{List, [], _∷_, _++_, append-nil}
+use mathlib.Core.List.{List, [], _++_, append-nil}
 use lib.ListN.{take, drop}
 use Rattle.meaning.specs.Words.{Action}
 use Rattle.meaning.specs.Node.{Verdict, verdict-number}
@@ -16,14 +16,13 @@ use Rattle.session_record.specs.Step.{standing, stepped-of}
 use Rattle.walk.specs.Walk.{One, one-call, one-read, one-of}
 use Rattle.printout.specs.Text.{end-text, stop-text}
 use Rattle.printout.specs.Named.{named-line-text}
-use Rattle.printed.specs.declared.Printed.{Printed}
 use Rattle.printed.specs.Printed.{one-after, by-one, printed-of}
 use Rattle.printed.proofs.Listed.{not-named}
 use Rattle.named_text.specs.Text.{named-text-of, named-shown}
 use Rattle.named.specs.Named.{names-of, named-call-text, named-by-one, named-of}
 use Rattle.named.specs.Listing.{named-lines-of}
 use Rattle.named.proofs.Fits.{named-held}
-use Rattle.demands.specs.Texts.{Row, or-none, name-text, named-row-text, end-line, stop-line}
+use Rattle.demands.specs.Texts.{or-none, name-text, named-row-text, end-line, stop-line}
 use Rattle.demands.proofs.Texts.{demand-last, demand-named-line}
 use Rattle.demands.proofs.Listing.{Lister}
 

@@ -33,23 +33,18 @@ use Rattle.printout.specs.Text.{stop-text}
 use Rattle.printout.specs.Named.{named-header-text}
 use Rattle.line_text.specs.Text.{text-of}
 use Rattle.line_text.proofs.Held.{text-held}
-use Rattle.session_record.specs.declared.Session.{Session}
 use Rattle.session_record.specs.Step.{fresh-of}
-use Rattle.walk.specs.Walk.{walk-of}
-use Rattle.printed.specs.declared.Printed.{Printed}
-use Rattle.printed.specs.Printed.{last-line, printed-of, opening-text, begun-of}
+use Rattle.printed.specs.Printed.{opening-text, begun-of}
 use Rattle.printed.specs.Listing.{shown, records-by, listing-of}
 use Rattle.printed.proofs.Whole.{listing-taken}
-use Rattle.named_text.specs.Text.{named-text-of}
-use Rattle.named.proofs.Lines.{last-same}
-use Rattle.named.specs.Named.{names-of, named-of}
+use Rattle.named.specs.Named.{names-of}
 use Rattle.name_list.specs.Read.{list-size, list-refusal}
 use Rattle.named.specs.Listing.{list-at, behind-list, property-at, behind-property, unless-bad, named-lines-of, named-log, named-listing-of}
 use Rattle.demands.specs.Refuses.{Refuses}
 use Rattle.demands.specs.Texts.{bytes, header, named-header, row-text, named-row-text, all-rows, stop-line}
 use Rattle.demands.specs.Names.{entry-bits, packed-list, list-front, list-behind, list-number, property-front, property-behind}
 use Rattle.demands.proofs.Texts.{demand-header, demand-last}
-use Rattle.demands.proofs.Listing.{ShownBy, refused-shown, read-good, listing-shown, listing-beside}
+use Rattle.demands.proofs.Listing.{ShownBy, read-good, listing-shown, listing-beside}
 use Rattle.demands.proofs.Named.{named-lister}
 
 -- ---- the bits of an entry

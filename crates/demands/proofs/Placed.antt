@@ -105,3 +105,7 @@ numbers-in-order run order o =
     all-in-order run order (numbers-of gets-in 1 run) (numbers-of goes-out 1 run) (rising gets-in 0 1 run (omega arith)) (rising goes-out 0 1 run (omega arith))
     (subst (Names run (numbers-of gets-in 1 run)) (sym (o .inputs-kept)) (ins-named [] run))
     (subst (Names run (numbers-of goes-out 1 run)) (sym (o .outputs-kept)) (outs-named [] run))
+
+-- Two equal lines are not both line 1.
+pub not-twice : (l : Line) → InOrder (1 ∷ 1 ∷ []) (l ∷ l ∷ []) → ⊥
+not-twice l h = h .0 .0 refl

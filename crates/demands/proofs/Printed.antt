@@ -1,17 +1,16 @@
 -- `printed::size`, `begin` and `record`, and `named::record`, on any session record: what each adds to a listing, in the documents' words.
 use Prim.Native.Nat.{ℕ, suc, _+_, _-_, _%_, _^_}
-use mathlib.Core.Path.{_≡_, refl, sym, _∙_, ap, ap₂}
+use mathlib.Core.Path.{_≡_, refl, sym, _∙_, ap}
 use mathlib.Core.Bool.{true, false, cond}
-use mathlib.Core.List.{List, [], _∷_, _++_}
+use mathlib.Core.List.{List, [], _++_}
 use lib.Dec.{eqb}
 use lib.ListN.{length, replicate}
-use Rattle.meaning.specs.Words.{Action}
 use Rattle.meaning.specs.Node.{Verdict, verdict-number}
 use Rattle.fields.specs.Fields.{field}
 use Rattle.property_form.specs.Form.{form-size}
 use Rattle.property_form.specs.Read.{length-read}
 use Rattle.property_form.specs.Read
-use Rattle.record_form.specs.Record.{RecordAnswer, case-by, record-answer}
+use Rattle.record_form.specs.Record.{case-by, record-answer}
 use Rattle.record_form.specs.Record
 use Rattle.trace_form.specs.ReadAs.{ReadAs, read-as}
 use Rattle.trace_form.specs.Trace.{Entry, kind-of, action-of, stamp-of, entry-call}
@@ -23,16 +22,15 @@ use Rattle.line_text.specs.Text.{text-of}
 use Rattle.line_text.proofs.Held.{text-held}
 use Rattle.printout.specs.Text.{stop-text}
 use Rattle.printed.specs.declared.Printed.{Printed}
-use Rattle.printed.specs.Printed.{one-after, call-text, last-line, by-one, printed-of, opening-text, begun-of}
+use Rattle.printed.specs.Printed.{one-after, last-line, by-one, printed-of, opening-text, begun-of}
 use Rattle.printed.specs.Listing.{shown}
 use Rattle.printed.proofs.Listed.{not-named}
 use Rattle.named_text.specs.Text.{named-text-of}
-use Rattle.named.specs.declared.Named.{Named}
 use Rattle.named.specs.Named.{names-of, named-by-one, named-of}
 use Rattle.named.proofs.Lines.{last-same}
 use Rattle.demands.specs.Packed.{property-bytes}
-use Rattle.demands.specs.Texts.{Row, row-text, named-row-text, end-line, stop-line}
-use Rattle.demands.proofs.Texts.{demand-last, demand-line}
+use Rattle.demands.specs.Texts.{row-text, named-row-text, end-line, stop-line}
+use Rattle.demands.proofs.Texts.{demand-last}
 use Rattle.demands.proofs.Listing.{entry-text, refused-shown}
 use Rattle.demands.proofs.Named.{named-entry-text}
 

@@ -1,11 +1,11 @@
 -- Document 02, CR 6, as theorems: `why::explain`.
 use Prim.Native.Nat.{ℕ, zero, suc, _^_, _<_}
 use mathlib.Core.Path.{_≡_, refl, sym, ap, ap₂, _∙_, subst}
-use mathlib.Core.Bool.{_||_}
+use mathlib.Core.Bool.{not, _||_}
 use mathlib.Core.List.{List, [], _∷_, _++_}
 use native.Mathlib.Omega.{arith}
 use lib.ListN.{length, take, drop}
-use lib.Dec.{ltb}
+use lib.Dec.{eqb, ltb}
 use lib.IntN.{ℤ, pos, negsuc}
 use Rattle.meaning.specs.Words.{Line, Run}
 use Rattle.meaning.specs.Words
@@ -21,9 +21,9 @@ use Rattle.property.specs.Meant.{meant}
 use Rattle.property.specs.declared.Property.{Property}
 use Rattle.session_record.specs.Step.{stepped-of}
 use Rattle.judged_rest.specs.declared.Reason.{Reason}
-use Rattle.judged_rest.specs.Lent.{Lines, count, run-of}
+use Rattle.judged_rest.specs.Lent.{Lines, run-of}
 use Rattle.first_order.specs.Search.{Pair}
-use Rattle.why.specs.Why.{shorter, uneven, why-refusal, over, Shows, ShowsBy, ReasonBy, IsReason}
+use Rattle.why.specs.Why.{uneven, why-refusal, over, Shows, ShowsBy, ReasonBy, IsReason}
 use Rattle.why.proofs.Determined.{taken-parts}
 use Rattle.line_text.specs.Text.{decimal}
 use Rattle.reason_text.specs.Reason.{signed}
@@ -39,8 +39,12 @@ use Rattle.demands.proofs.Placed.{numbers-in-order}
 pub demand-1-why : (p : Property) (ls : Lines) (l l2 : Pair) (r : Reason) (m m2 : Pair) → IsReason p ls r l l2 m m2
     → Refuses (r .refusal)
     (first-of (property-refusal (meant p))
-    (first-of (given 7 (uneven ls))
-    (first-of (lines-refusal (meant p) fresh (run-of ls)) (first-of (given 13 (ltb 256 (count ls))) (given 9 (shorter l (count ls) || shorter l2 (count ls)))))))
+    (first-of (given 7 (not (eqb (length (ls .output)) (length (ls .stamp))) || not (eqb (length (ls .action)) (length (ls .stamp)))))
+    (first-of (lines-refusal (meant p) fresh (run-of ls))
+    (first-of (given 13 (ltb 256 (length (ls .stamp))))
+    (given 9
+    ((ltb (length (l .numbers)) (length (ls .stamp)) || ltb (length (l .moments)) (length (ls .stamp)))
+    || (ltb (length (l2 .numbers)) (length (ls .stamp)) || ltb (length (l2 .moments)) (length (ls .stamp)))))))))
     (λ n. (r ≡ record { refusal = n; verdict = 0; line = 0 }) × (m ≡ l) × (m2 ≡ l2))
 unfolding IsReason
 demand-1-why p ls l l2 r m m2 h = record { first = number (why-refusal p ls l l2) h; alone = λ n e. alone (why-refusal p ls l l2) h n e }
