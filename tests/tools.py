@@ -1089,10 +1089,28 @@ def edits_cited(folder):
             holds(f'docs/PROMISES.md does not name {crate}/{name}', f'`{name[:-len(".edit")]}`' in text)
 
 
+def demands_cited(folder):
+    """What docs/PROMISES.md names of the demands is what the file of the demands states or hands on."""
+    text = contents(os.path.join(TOP, 'docs', 'PROMISES.md')).decode()
+    told = text[text.index('- **The demands**'):]
+    told = set(re.findall('`([a-zA-Z0-9-]+)`', told[:told.index('\n\n')])) - {'line', 'mark'}
+    source = contents(os.path.join(TOP, 'crates', 'demands', 'proofs', 'Demands.antt')).decode()
+    handed = set(re.findall(r'(?m)^ *pub ([a-z][a-zA-Z0-9-]*) :(?=.*→|$)', source))
+    fields = set()
+    for record in re.findall(r'(?m)^( *)pub record .*\n((?:\1  .*\n)+)', source):
+        fields |= set(re.findall(r'(?m)^ *pub ([a-z][a-zA-Z0-9-]*) :', record[1]))
+    for names in re.findall(r'(?m)^pub use .*[{](.*)[}]$', source):
+        handed |= {name.split(' as ')[-1].strip() for name in names.split(',')}
+    handed -= fields
+    holds(f'only {len(handed)} theorems', len(handed) > 60)
+    same('theorems of the demands that docs/PROMISES.md does not name', sorted(handed - told), [])
+    same('theorems that docs/PROMISES.md names and the demands do not hand on', sorted(told - handed), [])
+
+
 PARTS = [listing_status, listing_long, listing_lost_output, listing_slow_reader, listing_live, listing_leaves_input, listing_builds,
          listing_names, listing_names_lists, listing_names_builds, listing_names_live, listing_tap, listing_why, names_text,
          names_output, pack_output, pack_text, pack_follow, pack_lost, pack_card, unpack_back, readme, rules_cited,
-         edits_cited]
+         edits_cited, demands_cited]
 
 
 def main(names):
