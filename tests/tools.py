@@ -1095,7 +1095,7 @@ def demands_cited(folder):
     told = text[text.index('- **The demands**'):]
     told = set(re.findall('`([a-zA-Z0-9-]+)`', told[:told.index('\n\n')])) - {'line', 'mark'}
     source = contents(os.path.join(TOP, 'crates', 'demands', 'proofs', 'Demands.antt')).decode()
-    handed = set(re.findall(r'(?m)^ *pub ([a-z][a-zA-Z0-9-]*) :(?=.*→|$)', source))
+    handed = set(re.findall(r'(?m)^ *pub ([a-z][a-zA-Z0-9-]*) :', source))
     fields = set()
     for record in re.findall(r'(?m)^( *)pub record .*\n((?:\1  .*\n)+)', source):
         fields |= set(re.findall(r'(?m)^ *pub ([a-z][a-zA-Z0-9-]*) :', record[1]))
