@@ -2,6 +2,7 @@
 use Prim.Native.Nat.{ℕ, _/_, _%_, _^_}
 use mathlib.Core.Path.{_≡_, refl}
 use mathlib.Core.Bool.{Bool, true, false}
+use mathlib.Core.List.{List}
 use lib.ListN.{getD, length}
 use lib.Dec.{eqb}
 use Rattle.laws.specs.Bits.{mask-to}
@@ -19,10 +20,11 @@ use Rattle.cuts.specs.Steps.{line-of}
 use Rattle.session_record.specs.Step.{no-session}
 use Rattle.kept.specs.Event.{call-of}
 use Rattle.kept.specs.declared.Event.the-variants as Kept
-use Rattle.walk.specs.Walk.{stop-number, stop-refusal}
+use Rattle.walk.specs.Walk.{stop-number, stop-refusal, in-numbers}
+use Rattle.walk.specs.declared.Walked.{Walked}
 use Rattle.walk.specs.declared.Stop.the-variants.{Budget, End, Refused}
 use Rattle.names.specs.Lookup.{wanted}
-use Rattle.judged_rest.specs.Lent.{Lines, run-of}
+use Rattle.judged_rest.specs.Lent.{lent, run-of}
 use Rattle.demands.specs.Called.{action-if, zero-session}
 use Rattle.demands.specs.Traces.{entry-of}
 
@@ -60,9 +62,10 @@ property-called p = (first-same _ _ (p .n) (λ i h. by (getD (p .output) i false
     by false k = refl
 
 -- the lines handed to `why::explain` have their directions, actions and stamps in three lists;
-pub lines-called : (ls : Lines)
-    → run-of ls ≡ first (λ i. record { action = action-if (getD (ls .output) i false) (getD (ls .action) i 0); stamp = getD (ls .stamp) i 0 }) (length (ls .stamp))
-lines-called ls = first-same _ _ (length (ls .stamp)) (λ i h. by (getD (ls .output) i false) (getD (ls .action) i 0) (getD (ls .stamp) i 0))
+pub lines-called : (outputs : List Bool) (actions stamps : List ℕ)
+    → run-of (lent outputs actions stamps)
+    ≡ first (λ i. record { action = action-if (getD outputs i false) (getD actions i 0); stamp = getD stamps i 0 }) (length stamps)
+lines-called outputs actions stamps = first-same _ _ (length stamps) (λ i h. by (getD outputs i false) (getD actions i 0) (getD stamps i 0))
   where
     by : (o : Bool) (k t : ℕ) → line-of o k t ≡ record { action = action-if o k; stamp = t }
     by true k t = refl
@@ -83,6 +86,11 @@ record-called a t n = (refl, refl, refl, refl, refl)
 pub stop-called : (n : ℕ)
     → (stop-number Budget ≡ 0) × (stop-number End ≡ 1) × (stop-number (Refused n) ≡ 2) × (stop-refusal Budget ≡ 0) × (stop-refusal End ≡ 0) × (stop-refusal (Refused n) ≡ n)
 stop-called n = (refl, refl, refl, refl, refl, refl)
+
+pub walk-called : (w : Walked)
+    → in-numbers w
+    ≡ record { taken = w .taken; stop = stop-number (w .stop); refusal = stop-refusal (w .stop); read = w .read; lost = w .lost; session = w .session }
+walk-called w = refl
 
 -- and what a refused fresh call hands back is a session of zeros.
 pub zeros-called : no-session ≡ zero-session

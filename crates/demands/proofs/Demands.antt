@@ -80,7 +80,7 @@ pub use Rattle.demands.proofs.Why.{demand-1-why, as-a-session, demand-w
 -- number, and two walks joined.
 pub use Rattle.demands.proofs.Lost.{gap-read, gap-number, gap-written, demand-1-mark, same-watched, same-told, same-step, same-through, same-answers, same-walk, same-judge, demand-joined}
 -- What is called, and what the session record holds after any calls.
-pub use Rattle.demands.proofs.Called.{kinds, own-call, line-called, mark-called, event-called, property-called, lines-called, name-called, record-called, stop-called, zeros-called}
+pub use Rattle.demands.proofs.Called.{kinds, own-call, line-called, mark-called, event-called, property-called, lines-called, name-called, record-called, stop-called, walk-called, zeros-called}
 pub use Rattle.demands.proofs.Held.{running-holds, demand-10}
 -- A verdict once told stays told (document 02, CR 3): of the calls that run (`Told`), behind `running-3`.
 pub use Rattle.demands.proofs.Told.{told-stays, closed-stays, closed-history, line-stands, session-stays, walk-stays, listing-stays, refused-stays}
