@@ -1,9 +1,9 @@
 -- Document 02, CR 6: "for the run open at the end record". The run that is kept is the one that the calls so far have left open.
-use Prim.Native.Nat.{ℕ, _+_, _≤_}
+use Prim.Native.Nat.{ℕ, _+_, _*_, _≤_}
 use mathlib.Core.Path.{_≡_}
 use mathlib.Core.Bool.{Bool, true, false, cond}
 use mathlib.Core.List.{List, [], _∷_, _++_}
-use lib.ListN.{length, getD}
+use lib.ListN.{length, drop, getD}
 use Rattle.laws.specs.Places.{first}
 use Rattle.meaning.specs.Words.{Line, Run}
 use Rattle.meaning.specs.Calls.{Call, Watch, fresh, watched, unless-refused}
@@ -16,7 +16,7 @@ use Rattle.trace_form.specs.ReadAs.{ReadAs, read-as}
 use Rattle.cuts.specs.Steps.{line-of}
 use Rattle.session_record.specs.declared.Session.{Session}
 use Rattle.session_record.specs.Record.{latest-of}
-use Rattle.session_record.specs.Step.{fresh-of, stepped-through}
+use Rattle.session_record.specs.Step.{fresh-of, stepped-of, stepped-through}
 use Rattle.session_record.specs.Lent.{Memory, record-in, Ready}
 use Rattle.reasons.specs.Reasons.{most-lines}
 use Rattle.walk.specs.declared.Did.{Did}
@@ -97,8 +97,32 @@ pub record Next (m : Memory) (k : Places) (did : Did) (after : Memory) (k′ : P
   pub few : length bytes ≤ record-size
   pub goes : Goes m k (read-as (record-answer bytes (latest-of (record-in m)))) did after k′
 
--- The lines are those of the run that some calls on a fresh session have left open.
-pub record Open (p : Property) (k : Places) : Type 0 where
+-- The bytes are records, one behind the other, each read "given the stamp before" and taken as the next of these calls.
+abbrev pub ReadAsCalls : Session → List ℕ → List Call → Type 0
+ReadAsCalls s bytes [] = bytes ≡ []
+ReadAsCalls s bytes (c ∷ calls) =
+    (read-as (record-answer bytes (latest-of s)) ≡ ReadAs.call c)
+    × (stepped-of s c .answer .refusal ≡ 0)
+    × ReadAsCalls (stepped-of s c .session) (drop record-size bytes) calls
+
+-- So many records have been read and taken: as these calls on a fresh session, which have made the one at hand.
+pub record SoFar (m : Memory) (taken : ℕ) (calls : List Call) : Type 0 where
+  pub read : List ℕ
+  pub whole : length read ≡ record-size * taken
+  pub as-calls : ReadAsCalls (fresh-of (m .property) .session) read calls
+  pub session : record-in m ≡ stepped-through (fresh-of (m .property) .session) calls
+
+-- "the run open at the end record": one was read behind so many that were taken, and the session at hand has this run open.
+pub record OpenAtEnd (m : Memory) (taken : ℕ) (run : Run) : Type 0 where
   pub calls : List Call
-  pub is-open : seen p calls .clock .is-blind ≡ false
-  pub keeps : Keeps (seen p calls .run) k
+  pub so-far : SoFar m taken calls
+  pub behind : List ℕ
+  pub at-end : read-as (record-answer behind (latest-of (record-in m))) ≡ ReadAs.end
+  pub is-open : seen (m .property) calls .clock .is-blind ≡ false
+  pub is-run : seen (m .property) calls .run ≡ run
+
+-- The lines are that run's.
+pub record Open (m : Memory) (taken : ℕ) (k : Places) : Type 0 where
+  pub run : Run
+  pub has : OpenAtEnd m taken run
+  pub keeps : Keeps run k

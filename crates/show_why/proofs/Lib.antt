@@ -1,2 +1,3 @@
--- The loop over the records.
+-- The loop over the records, and what is told at its end.
 pub mod Going
+pub mod Told

@@ -7,7 +7,9 @@ ghost use Rattle.meaning.specs.Numbers.{property-refusal};
 ghost use Rattle.property.specs.Meant.{meant};
 ghost use Rattle.table.specs.Table.{IsTable};
 ghost use Rattle.session_record.specs.Lent.{memory, Ready};
+ghost use Rattle.first_order.specs.Search.{pair};
 ghost use Rattle.open_run.specs.Kept.{in-lines, Next, Open};
+ghost use Rattle.show_why.specs.Told.{Explained};
 use held::Status;
 use judged_rest::Reason;
 use libc::STDIN_FILENO;
@@ -71,8 +73,13 @@ fn order(numbers: &[u64; 256], moments: &[i64; 256], count: usize) -> bool
     true
 }
 
-// Writes what was found of a run of so many lines.
+// Writes what was found of the run that is open, which has so many lines. The session that has it open is lent for the promise alone: the
+// rows and what stands beside them, after so many records.
 fn found(
+    p: Property,
+    rows: &[Words],
+    status: Status,
+    taken: u64,
     r: Reason,
     numbers: &[u64; 256],
     moments: &[i64; 256],
@@ -80,7 +87,7 @@ fn found(
     moments2: &[i64; 256],
     count: usize,
 )
-    requires { ⌜ count ≤ most-lines ⌝ }
+    requires { ⌜ Explained (memory p (now rows) status) taken count r (pair (now numbers) (now moments)) (pair (now numbers2) (now moments2)) ⌝ }
 {
     if r.refusal != 0 {
         stop(r.refusal);
@@ -98,8 +105,17 @@ fn found(
 }
 
 // Writes why the run that is open has its verdict.
-fn tell(p: Property, outputs: &[bool], actions: &[u8], stamps: &[u64], count: usize)
-    requires { ⌜ Open p (in-lines (now outputs) (now actions) (now stamps) count) ⌝ }
+fn tell(
+    p: Property,
+    rows: &[Words],
+    status: Status,
+    taken: u64,
+    outputs: &[bool],
+    actions: &[u8],
+    stamps: &[u64],
+    count: usize,
+)
+    requires { ⌜ Open (memory p (now rows) status) taken (in-lines (now outputs) (now actions) (now stamps) count) ⌝ }
 {
     if MOST_LINES < count {
         stop(13);
@@ -119,7 +135,18 @@ fn tell(p: Property, outputs: &[bool], actions: &[u8], stamps: &[u64], count: us
         &mut numbers2,
         &mut moments2,
     );
-    found(r, &numbers, &moments, &numbers2, &moments2, count);
+    found(
+        p,
+        rows,
+        status,
+        taken,
+        r,
+        &numbers,
+        &moments,
+        &numbers2,
+        &moments2,
+        count,
+    );
 }
 
 // Takes the records. The table is made once, and the rows are lent from record to record. A proved loop has to end, and nothing says
@@ -163,7 +190,9 @@ fn records(fd: i32, p: Property)
                     listing_shell::write(reason_text::blind());
                     return;
                 }
-                tell(p, &outputs, &actions, &stamps, count);
+                // Each turn before this one took a record.
+                let taken = u64::MAX - turns;
+                tell(p, &rows, status, taken, &outputs, &actions, &stamps, count);
                 return;
             }
             Did::Not(number) => {

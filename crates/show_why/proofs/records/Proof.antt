@@ -10,9 +10,9 @@ use Rattle.line_text.specs.declared.Text.{Text}
 use Rattle.line_text.specs.Text.{room}
 use Rattle.line_text.proofs.Held.{text-len}
 use Rattle.reason_text.proofs.Fits.{blind-fits}
-use Rattle.open_run.specs.Kept.{Places, in-lines}
+use Rattle.open_run.specs.Kept.{Places, in-lines, Open}
 use Rattle.open_run.proofs.Keeping.{keeps-fresh}
-use Rattle.show_why.proofs.Going.{Going, going-fresh, going-on, going-open}
+use Rattle.show_why.proofs.Going.{gone, Going, going-fresh, going-on, going-open}
 use borrow.Author.Needs.{needs}
 use Rattle.show_why.proofs.records.Statement.{statement}
 use Rattle.show_why.proofs.records.Tie as tie
@@ -42,8 +42,14 @@ start k = made (turn k .before) .before .before
 abbrev told : tie.At-match-keys1 Inv-loop μ-loop → tie.After-next Inv-loop μ-loop
 told c = c .before .before .before
 
-abbrev ended : tie.Else1 Inv-loop μ-loop → tie.After-next Inv-loop μ-loop
-ended e = let m = e .before .before in m .before .before .before .before
+abbrev ended : tie.Else1 Inv-loop μ-loop → tie.After-enum-told2 Inv-loop μ-loop
+ended e = e .before .before
+
+abbrev last : tie.Else1 Inv-loop μ-loop → tie.After-next Inv-loop μ-loop
+last e = let m = ended e .before in m .before .before .before
+
+abbrev telling : tie.After-stamps2 Inv-loop μ-loop → tie.Else1 Inv-loop μ-loop
+telling c = let a = c .before .before in a .before .before
 
 -- what it has led to
 abbrev after : tie.After-next Inv-loop μ-loop → Memory
@@ -54,9 +60,6 @@ lines k =
     let last = k .next .last .1 .1 .1 .1 .1 in
     in-lines (last .0) (last .1 .0) (last .1 .1 .0) (k .next .result .count)
 
-gone : (k : tie.After-next Inv-loop μ-loop) → Going (after k) (lines k) (turn k .before .loop .turns - 1)
-gone k = going-on _ _ _ (turn k .loop-test .taken) (turn k .before .loop .inv .0) (k .next .ensures)
-
 loop-holds : tie.Need-loop-holds Inv-loop μ-loop
 loop-holds c =
     let k = c .before in
@@ -65,9 +68,9 @@ loop-holds c =
     let b = f .before .before in
     let r = f .fresh in
     let rows = k .rows-of in (
-      going-fresh (b .args .p) (b .pre) (rows .result) (r .result .session .shared .status) _ _
+      going-fresh (b .args .p) (b .pre) (rows .result) (r .result .session .shared .status) _
           (fresh-ready (b .args .p) (b .pre) (r .result) (r .ensures) (rows .result) (rows .ensures .0) (rows .ensures .2))
-          (fresh-means (b .args .p) (b .pre) (r .result) (r .ensures) (rows .result) (rows .ensures .0)) keeps-fresh (omega arith),
+          (fresh-means (b .args .p) (b .pre) (r .result) (r .ensures) (rows .result) (rows .ensures .0)) keeps-fresh,
       rows .ensures .1,
     )
 
@@ -84,7 +87,10 @@ loop-less : tie.Need-loop-less Inv-loop μ-loop
 loop-less c = omega arith
 
 loop-again : tie.Need-loop-again Inv-loop μ-loop
-loop-again c = let k = told (c .before) in (gone k, search needs)
+loop-again c =
+    let k = told (c .before) in
+    let t = turn k in
+    (going-on _ _ _ (t .before .loop .inv .0) (k .next .ensures) (c .enum-told .given .1) (t .loop-test .taken), search needs)
 
 write-requires : tie.Need-write-requires Inv-loop μ-loop
 write-requires c κs = subst (λ (t : Text). t .len ≤ room) (sym (c .blind .ensures)) (text-len _ blind-fits)
@@ -92,17 +98,26 @@ write-requires c κs = subst (λ (t : Text). t .len ≤ room) (sym (c .blind .en
 returns : tie.Need-returns Inv-loop μ-loop
 returns c = tt
 
-slice-aggregate-tell : tie.Need-slice-aggregate-tell Inv-loop μ-loop
-slice-aggregate-tell c = let e = c .before in sym (gone (ended e) .stands .keeps .outputs-long)
+-- where a run is open at the end record
+opened : (e : tie.Else1 Inv-loop μ-loop) → Open (after (last e)) (gone (turn (last e) .before .loop .turns)) (lines (last e))
+opened e =
+    let k = last e in
+    going-open _ _ _ (turn k .before .loop .inv .0) (k .next .ensures) (ended e .enum-told2 .given .1) (e .if1 .left)
+
+sub-taken : tie.Need-sub-taken Inv-loop μ-loop
+sub-taken c = let t = turn (last c) in omega (arith, t .before .loop .inv .0 .left)
 
 slice-aggregate-tell-2 : tie.Need-slice-aggregate-tell-2 Inv-loop μ-loop
-slice-aggregate-tell-2 c = let e = c .before .before in sym (gone (ended e) .stands .keeps .actions-long)
+slice-aggregate-tell-2 c = let e = c .before .before in sym (opened e .keeps .outputs-long)
 
 slice-aggregate-tell-3 : tie.Need-slice-aggregate-tell-3 Inv-loop μ-loop
-slice-aggregate-tell-3 c = let a = c .before in let e = a .before .before in sym (gone (ended e) .stands .keeps .stamps-long)
+slice-aggregate-tell-3 c = let a = c .before in let e = a .before .before in sym (opened e .keeps .actions-long)
+
+slice-aggregate-tell-4 : tie.Need-slice-aggregate-tell-4 Inv-loop μ-loop
+slice-aggregate-tell-4 c = sym (opened (telling c) .keeps .stamps-long)
 
 tell-requires : tie.Need-tell-requires Inv-loop μ-loop
-tell-requires c κs = let a = c .before in let e = a .before .before in going-open _ _ _ (gone (ended e)) (e .if1 .left)
+tell-requires c κs = opened (telling c)
 
 returns-2 : tie.Need-returns-2 Inv-loop μ-loop
 returns-2 c = tt
@@ -133,9 +148,11 @@ records-spec =
     (λ c κs. search needs)
     write-requires
     returns
-    slice-aggregate-tell
+    sub-taken
+    (λ c. search needs)
     slice-aggregate-tell-2
     slice-aggregate-tell-3
+    slice-aggregate-tell-4
     tell-requires
     returns-2
     (λ c. search needs)
