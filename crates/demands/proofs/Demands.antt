@@ -45,7 +45,7 @@ use Rattle.demands.specs.Refuses.{Refuses}
 use Rattle.demands.specs.Uses.{Use, session-through}
 use Rattle.demands.specs.Called.{zero-session}
 use Rattle.demands.specs.Traces.{first-met}
-use Rattle.demands.specs.Texts.{header, row-text, stop-line}
+use Rattle.demands.specs.Texts.{header, stop-line}
 use Rattle.demands.proofs.Running.{running, seen, running-number, running-range}
 use Rattle.demands.proofs.Exact.{blind-kept, exact-kept, line-told, says-blind}
 use Rattle.demands.proofs.Walks.{WalkedOver, walk-over, walk-named, walk-rest}
@@ -62,7 +62,8 @@ pub use Rattle.trace_form.proofs.Trace.{trace-reads-back, trace-writes-back, tr
 pub use Rattle.demands.proofs.Written.{written-trace}
 pub use Rattle.demands.proofs.Forms.{begins-one-packing}
 -- What a reader takes, by the fields of the bytes, and how many bytes that is; its rest.
-pub use Rattle.demands.proofs.Packed.{demand-1-read-property, demand-read-property, demand-1-write-property, demand-1-read-record, demand-read-record, demand-1-write-record, demand-1-read-tap, demand-read-tap, rest-called}
+pub use Rattle.demands.proofs.Packed.{demand-1-read-property, demand-read-property, demand-1-write-property, demand-1-read-record, demand-read-record}
+pub use Rattle.demands.proofs.Packed.{demand-1-write-record, demand-1-read-tap, demand-read-tap, rest-called}
 -- The tap card's records of true stamps are read back as the lines that they are of, and two traces that are read as the same lines are the
 -- same bytes (document 02, CR 4).
 pub use Rattle.tap_form.proofs.Card.{card-reads-back, card-writes-back, card-one-packing}
@@ -243,7 +244,13 @@ pub record Demand-1-walk (s : Session) (bytes : List ℕ) (budget : ℕ) : Type 
   pub no-rest : (read : ℕ) → length bytes < read → rest-start (length bytes) read ≡ 0
 
 pub demand-1-walk : (s : Session) (bytes : List ℕ) (budget : ℕ) → Demand-1-walk s bytes budget
-demand-1-walk s bytes budget = record { named = walk-named s bytes budget; walked = walk-over s bytes budget; rest = walk-rest s bytes budget; no-rest = λ read h. ap (λ (t : Bool). cond t 0 read) (lt-ltb (length bytes) read h) }
+demand-1-walk s bytes budget =
+    record {
+      named = walk-named s bytes budget;
+      walked = walk-over s bytes budget;
+      rest = walk-rest s bytes budget;
+      no-rest = λ read h. ap (λ (t : Bool). cond t 0 read) (lt-ltb (length bytes) read h);
+    }
 
 -- ==== The judge: the first refusal met, in the order of document 01, and it stands alone. What is taken is one property's whole
 -- packing and one trace's, the count is the number of its records, each of them is taken from a fresh session, and the verdict's
@@ -283,7 +290,7 @@ pub record Demand-listing (size : ℕ) (reader : Reader) (property records : Lis
   pub refused : (n : ℕ) → Read.read property .refusal ≡ suc n → listing-by size reader property records ≡ header ++ stop-line 0 (suc n)
   pub taken : (e : Read.read property .refusal ≡ 0)
       → (text : List ℕ) × (listing-by size reader property records ≡ header ++ text)
-      × ShownBy (Read.read property .property) (read-good property e) size reader row-text [] 0 records text
+      × ShownBy (Read.read property .property) (read-good property e) size reader [] 0 records text
 
 listing-listed : {size : ℕ} {reader : Reader} → Reads size reader → (property records : List ℕ) → Demand-listing size reader property records
 listing-listed {size} {reader} reads property records =
@@ -291,7 +298,8 @@ listing-listed {size} {reader} reads property records =
       refused = λ n e. listing-refused size reader property records n e ∙ ap₂ _++_ (demand-header .0) (demand-last 0 (suc n) .1);
       taken = λ e. (
         records-by size reader (fresh-of (Read.read property .property) .session) 0 records,
-        listing-taken size reader property records e ∙ ap (λ (h : List ℕ). h ++ records-by size reader (fresh-of (Read.read property .property) .session) 0 records) (demand-header .0),
+        listing-taken size reader property records e
+            ∙ ap (λ (h : List ℕ). h ++ records-by size reader (fresh-of (Read.read property .property) .session) 0 records) (demand-header .0),
         listing-shown size reader reads property records e,
       );
     }

@@ -101,8 +101,8 @@ module _ (p : Property) (good : property-refusal (meant p) ≡ 0) where
       ap count-of (running-record p good calls) ∙ open-agrees R (grown-agrees R calls)
 
   -- The bytes begin with these records, as a reader of records of this size reads them, each is taken as a single call, there is a row for
-  -- each, and the last line; and so many lines of any listing of them are these.
-  pub record Listed (size : ℕ) (reader : Reader) (most : ℕ) (before : List Call) (number : ℕ) (bytes : List ℕ) : Type 0 where
+  -- each, and the last line.
+  pub record Listed (size : ℕ) (reader : Reader) (before : List Call) (number : ℕ) (bytes : List ℕ) : Type 0 where
     pub entries : List Entry
     pub begins : BeginsBy size reader bytes (latest-of (running p good before)) entries
     pub each : TakenOneByOne (running p good before) (calls-of entries)
@@ -110,7 +110,11 @@ module _ (p : Property) (good : property-refusal (meant p) ≡ 0) where
     pub are-rows : Rows (meant p) before number entries rows
     pub last : List ℕ
     pub is-last : LastLine reader (stepped-through (running p good before) (calls-of entries)) (behind-by size entries bytes) (counted number entries) last
-    pub whole : (L : Lister size reader) → L .lines most (running p good before) number bytes ≡ all-rows (L .row) rows ++ last
+
+  -- Any listing's text of so many lines is these rows, as it writes them, and the last line.
+  pub record AllListed (size : ℕ) (reader : Reader) (most : ℕ) (before : List Call) (number : ℕ) (bytes : List ℕ) : Type 0 where
+    pub listed : Listed size reader before number bytes
+    pub whole : (L : Lister size reader) → L .lines most (running p good before) number bytes ≡ all-rows (L .row) (listed .rows) ++ listed .last
 
   module _ (size : ℕ) (reader : Reader) (reads : Reads size reader) (most : ℕ) (before : List Call) (number : ℕ) (bytes : List ℕ) where
     abbrev s : Session
@@ -121,9 +125,10 @@ module _ (p : Property) (good : property-refusal (meant p) ≡ 0) where
 
     -- the last line
     none-more : (text : List ℕ) → LastLine reader s bytes number text → ((L : Lister size reader) → L .lines (suc most) s number bytes ≡ text)
-        → Listed size reader (suc most) before number bytes
+        → AllListed size reader (suc most) before number bytes
     unfolding stepped-through all-rows
-    none-more text h all = record { entries = []; begins = tt; each = tt; rows = []; are-rows = refl; last = text; is-last = h; whole = all }
+    none-more text h all =
+        record { listed = record { entries = []; begins = tt; each = tt; rows = []; are-rows = refl; last = text; is-last = h }; whole = all }
 
     -- one line more
     module _ (e : Entry) (k : reader bytes (latest-of s) ≡ Record.taken (kind-of e) (action-of e) (stamp-of e)) (q : read-as (reader bytes (latest-of s)) ≡ ReadAs.call (entry-call e))
@@ -134,34 +139,38 @@ module _ (p : Property) (good : property-refusal (meant p) ≡ 0) where
       abbrev one : ℕ
       one = (number + 1) % 2 ^ 64
 
-      one-line : Listed size reader most next one (drop size bytes) → Listed size reader (suc most) before number bytes
+      one-line : AllListed size reader most next one (drop size bytes) → AllListed size reader (suc most) before number bytes
       unfolding stepped-through all-rows
-      one-line r =
+      one-line all =
+          let r = all .listed in
           let c = entry-call e in
           let to : running p good next ≡ stepped-of s c .session = running-next p good before c in
           let latest : latest-of (running p good next) ≡ stamp-of e = ap latest-of to ∙ entry-latest s e z in
           let v = standing-told p good next in
           let row : Row = record { number = one; entry = e; verdict = v .0; open-count = open-of (meant p) (seen p good next) } in
           record {
-            entries = e ∷ r .entries;
-            begins = (k, subst (λ (t : ℕ). BeginsBy size reader (drop size bytes) t (r .entries)) latest (r .begins));
-            each = (z, subst (λ (x : Session). TakenOneByOne x (calls-of (r .entries))) to (r .each));
-            rows = row ∷ r .rows;
-            are-rows = (v .0, r .rows, v .1, refl, r .are-rows);
-            last = r .last;
-            is-last =
-                subst (λ (x : Session). LastLine reader (stepped-through x (calls-of (r .entries))) (behind-by size (r .entries) (drop size bytes)) (counted one (r .entries)) (r .last))
-                to (r .is-last);
+            listed =
+                record {
+                  entries = e ∷ r .entries;
+                  begins = (k, subst (λ (t : ℕ). BeginsBy size reader (drop size bytes) t (r .entries)) latest (r .begins));
+                  each = (z, subst (λ (x : Session). TakenOneByOne x (calls-of (r .entries))) to (r .each));
+                  rows = row ∷ r .rows;
+                  are-rows = (v .0, r .rows, v .1, refl, r .are-rows);
+                  last = r .last;
+                  is-last =
+                      subst (λ (x : Session). LastLine reader (stepped-through x (calls-of (r .entries))) (behind-by size (r .entries) (drop size bytes)) (counted one (r .entries)) (r .last))
+                      to (r .is-last);
+                };
             whole = λ L.
                 L .at-call most s number bytes fits e q z (v .0) (ap standing (sym to) ∙ v .2)
                 ∙ ap₂ (λ (n : ℕ) (rest : List ℕ). L .row (record { number = one; entry = e; verdict = v .0; open-count = n }) ++ rest)
-                (ap count-of (sym to) ∙ open-told next) (ap (λ (x : Session). L .lines most x one (drop size bytes)) (sym to) ∙ r .whole L)
+                (ap count-of (sym to) ∙ open-told next) (ap (λ (x : Session). L .lines most x one (drop size bytes)) (sym to) ∙ all .whole L)
                 ∙ sym (append-assoc (L .row row) (all-rows (L .row) (r .rows)) (r .last));
           }
 
     by-front : (x : ReadAs) → Front reader bytes (latest-of s) x → read-as (reader bytes (latest-of s)) ≡ x
-        → ((after : List Call) → length (drop size bytes) < most → Listed size reader most after ((number + 1) % 2 ^ 64) (drop size bytes))
-        → length bytes < suc most → Listed size reader (suc most) before number bytes
+        → ((after : List Call) → length (drop size bytes) < most → AllListed size reader most after ((number + 1) % 2 ^ 64) (drop size bytes))
+        → length bytes < suc most → AllListed size reader (suc most) before number bytes
     by-front x (ended e) q on h = none-more (end-line number) (inl (e, refl)) (λ L. L .at-end most s number bytes fits q)
     by-front x (refused n e nz) q on h =
         none-more (stop-line number n) (inr (n, inl e, nz, refl)) (λ L. L .at-refusal most s number bytes fits (ReadAs.refused n) q n (unfold one-read in refl))
@@ -170,35 +179,24 @@ module _ (p : Property) (good : property-refusal (meant p) ≡ 0) where
         long : size ≤ length bytes
         long = reads-whole reads bytes (latest-of s) (ap (λ (a : RecordAnswer). a .refusal) k)
 
-        by-number : (n : ℕ) → stepped-of s (entry-call e) .answer .refusal ≡ n → Listed size reader (suc most) before number bytes
+        by-number : (n : ℕ) → stepped-of s (entry-call e) .answer .refusal ≡ n → AllListed size reader (suc most) before number bytes
         by-number zero z = one-line e k q z (on (before ++ entry-call e ∷ []) (omega (arith, long, h, length-drop size bytes, reads .some)))
         by-number (suc n) z =
             let r : one-read s (ReadAs.call (entry-call e)) ≡ One.refused (suc n) = unfold one-read one-call in (ap (one-call s (entry-call e)) z) in
             none-more (stop-line number (suc n)) (inr (suc n, inr (e, k, z), (λ y. omega arith), refl))
             (λ L. L .at-refusal most s number bytes fits (ReadAs.call (entry-call e)) q (suc n) r)
 
-  pub listed : (size : ℕ) (reader : Reader) → Reads size reader → (most : ℕ) (before : List Call) (number : ℕ) (bytes : List ℕ) → length bytes < most
-      → Listed size reader most before number bytes
-  listed size reader reads zero before number bytes h = absurd (omega arith)
-  listed size reader reads (suc most) before number bytes h =
+  pub all-listed : (size : ℕ) (reader : Reader) → Reads size reader → (most : ℕ) (before : List Call) (number : ℕ) (bytes : List ℕ) → length bytes < most
+      → AllListed size reader most before number bytes
+  all-listed size reader reads zero before number bytes h = absurd (omega arith)
+  all-listed size reader reads (suc most) before number bytes h =
       by-front size reader reads most before number bytes (read-as (reader bytes (latest-of (running p good before)))) (front reads bytes (latest-of (running p good before))) refl
-      (λ after l. listed size reader reads most after ((number + 1) % 2 ^ 64) (drop size bytes) l) h
+      (λ after l. all-listed size reader reads most after ((number + 1) % 2 ^ 64) (drop size bytes) l) h
 
-  -- The same of one listing's text.
-  pub record ShownBy (size : ℕ) (reader : Reader) (row : Row → List ℕ) (before : List Call) (number : ℕ) (bytes text : List ℕ) : Type 0 where
-    pub entries : List Entry
-    pub begins : BeginsBy size reader bytes (latest-of (running p good before)) entries
-    pub each : TakenOneByOne (running p good before) (calls-of entries)
-    pub rows : List Row
-    pub are-rows : Rows (meant p) before number entries rows
-    pub last : List ℕ
-    pub is-last : LastLine reader (stepped-through (running p good before) (calls-of entries)) (behind-by size entries bytes) (counted number entries) last
-    pub whole : text ≡ all-rows row rows ++ last
-
-  pub shown-by : {size : ℕ} {reader : Reader} {most : ℕ} {before : List Call} {number : ℕ} {bytes : List ℕ} → Listed size reader most before number bytes
-      → (L : Lister size reader) → ShownBy size reader (L .row) before number bytes (L .lines most (running p good before) number bytes)
-  shown-by r L =
-      record { entries = r .entries; begins = r .begins; each = r .each; rows = r .rows; are-rows = r .are-rows; last = r .last; is-last = r .is-last; whole = r .whole L }
+  -- Of the listing without names: its text is these rows and the last line.
+  pub record ShownBy (size : ℕ) (reader : Reader) (before : List Call) (number : ℕ) (bytes text : List ℕ) : Type 0 where
+    pub listed : Listed size reader before number bytes
+    pub whole : text ≡ all-rows row-text (listed .rows) ++ listed .last
 
 -- ---- the public calls of the listing
 
@@ -222,20 +220,19 @@ read-good property e =
     let r : Read.read-refusal property ≡ 0 = sym (refusal-read property) ∙ e in
     ap (λ (q : Property). property-refusal (meant q)) (property-of-read property r) ∙ not-refused property r
 
-pub listing-listed : (size : ℕ) (reader : Reader) → Reads size reader → (property records : List ℕ) (e : Read.read property .refusal ≡ 0)
-    → Listed (Read.read property .property) (read-good property e) size reader (suc (length records)) [] 0 records
-listing-listed size reader reads property records e =
-    listed (Read.read property .property) (read-good property e) size reader reads (suc (length records)) [] 0 records (omega arith)
+module _ (size : ℕ) (reader : Reader) (reads : Reads size reader) (property records : List ℕ) (e : Read.read property .refusal ≡ 0) where
+  abbrev p : Property
+  p = Read.read property .property
 
-pub listing-shown : (size : ℕ) (reader : Reader) → Reads size reader → (property records : List ℕ) (e : Read.read property .refusal ≡ 0)
-    → ShownBy (Read.read property .property) (read-good property e) size reader row-text [] 0 records (records-by size reader (fresh-of (Read.read property .property) .session) 0 records)
-unfolding stepped-through plain
-listing-shown size reader reads property records e =
-    shown-by (Read.read property .property) (read-good property e) (listing-listed size reader reads property records e) (plain size reader reads)
+  all : AllListed p (read-good property e) size reader (suc (length records)) [] 0 records
+  all = all-listed p (read-good property e) size reader reads (suc (length records)) [] 0 records (omega arith)
 
--- Any other listing of the same records has the same rows, as it writes them, and the same last line.
-pub listing-beside : (size : ℕ) (reader : Reader) (reads : Reads size reader) (property records : List ℕ) (e : Read.read property .refusal ≡ 0) (L : Lister size reader)
-    → L .lines (suc (length records)) (fresh-of (Read.read property .property) .session) 0 records
-    ≡ all-rows (L .row) (listing-shown size reader reads property records e .rows) ++ listing-shown size reader reads property records e .last
-unfolding stepped-through listing-shown shown-by
-listing-beside size reader reads property records e L = listing-listed size reader reads property records e .whole L
+  pub listing-shown : ShownBy p (read-good property e) size reader [] 0 records (records-by size reader (fresh-of p .session) 0 records)
+  unfolding stepped-through plain
+  listing-shown = record { listed = all .listed; whole = all .whole (plain size reader reads) }
+
+  -- Any other listing of the same records has the same rows, as it writes them, and the same last line.
+  pub listing-beside : (L : Lister size reader)
+      → L .lines (suc (length records)) (fresh-of p .session) 0 records ≡ all-rows (L .row) (listing-shown .listed .rows) ++ listing-shown .listed .last
+  unfolding stepped-through listing-shown
+  listing-beside L = all .whole L

@@ -41,7 +41,7 @@ use Rattle.named.specs.Named.{names-of}
 use Rattle.name_list.specs.Read.{list-size, list-refusal}
 use Rattle.named.specs.Listing.{list-at, behind-list, property-at, behind-property, unless-bad, named-lines-of, named-log, named-listing-of}
 use Rattle.demands.specs.Refuses.{Refuses}
-use Rattle.demands.specs.Texts.{bytes, header, named-header, row-text, named-row-text, all-rows, stop-line}
+use Rattle.demands.specs.Texts.{bytes, header, named-header, named-row-text, all-rows, stop-line}
 use Rattle.demands.specs.Names.{entry-bits, packed-list, list-front, list-behind, list-number, property-front, property-behind}
 use Rattle.demands.proofs.Texts.{demand-header, demand-last}
 use Rattle.demands.proofs.Listing.{ShownBy, read-good, listing-shown, listing-beside}
@@ -268,8 +268,8 @@ module _ (site release property records : List ℕ) where
   -- the rows and the last line of the listing without names
   all-named : (e : Read.read property .refusal ≡ 0)
       → lines
-      ≡ all-rows (named-row-text (names-of site release)) (listing-shown 6 record-answer record-reads property records e .rows)
-      ++ listing-shown 6 record-answer record-reads property records e .last
+      ≡ all-rows (named-row-text (names-of site release)) (listing-shown 6 record-answer record-reads property records e .listed .rows)
+      ++ listing-shown 6 record-answer record-reads property records e .listed .last
   unfolding named-lister
   all-named e = listing-beside 6 record-answer record-reads property records e (named-lister site release)
 
@@ -296,8 +296,8 @@ module _ (input : List ℕ) (small : Bytes input) where
     -- "the same listing with one more field behind the action number": the rows and the last line of the listing without names,
     pub taken : list-number 11 input ≡ 0 → list-number 12 (list-behind input) ≡ 0 → (e : Read.read (property-front log) .refusal ≡ 0)
         → (plain : List ℕ) × (listing-of (property-front log) (property-behind log) ≡ header ++ plain)
-        × (shown : ShownBy (Read.read (property-front log) .property) (read-good (property-front log) e) 6 record-answer row-text [] 0 (property-behind log) plain)
-        × (named-listing-of input ≡ named-header ++ (all-rows (named-row-text names) (shown .rows) ++ shown .last))
+        × (shown : ShownBy (Read.read (property-front log) .property) (read-good (property-front log) e) 6 record-answer [] 0 (property-behind log) plain)
+        × (named-listing-of input ≡ named-header ++ (all-rows (named-row-text names) (shown .listed .rows) ++ shown .listed .last))
     -- and the names are those of the lists.
     pub named : list-number 11 input ≡ 0 → list-number 12 (list-behind input) ≡ 0 → (a : Action) → action-number a ≤ 63
         → names a ≡ either-name (names-in site a) (names-in release a)

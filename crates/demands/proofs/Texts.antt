@@ -10,7 +10,8 @@ use Rattle.line_text.specs.Text.{decimal}
 use Rattle.printout.specs.Text.{letter, word, header-text, line-text, end-text, stop-text}
 use Rattle.printout.specs.Named.{named-header-text, front-text, back-text, shown-name, named-line-text}
 use Rattle.reason_text.specs.Reason.{signed, reached-text, placed-text, blind-text, stop-alone-text}
-use Rattle.demands.specs.Texts.{bytes, header, Row, kind-text, action-text, stamp-text, verdict-text, row-text, end-line, stop-line, named-header, or-none, name-text, named-row-text, reached-line, moment-text, placed-line, blind-line, stop-alone-line}
+use Rattle.demands.specs.Texts.{bytes, header, Row, kind-text, action-text, stamp-text, verdict-text, row-text, end-line, stop-line}
+use Rattle.demands.specs.Texts.{named-header, or-none, name-text, named-row-text, reached-line, moment-text, placed-line, blind-line, stop-alone-line}
 
 -- ---- letters and words
 

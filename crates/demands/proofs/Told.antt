@@ -30,11 +30,11 @@ use Rattle.session_record.proofs.Running.{running-answer}
 use Rattle.demands.specs.Traces.{calls-of, TakenOneByOne}
 use Rattle.demands.specs.Texts.{Row}
 use Rattle.demands.specs.Listing.{Rows}
-use Rattle.demands.specs.Told.{Told, unless-gap, NotBelow, StayTold, told-by, walk-rows, told-rows}
+use Rattle.demands.specs.Told.{RecordTold, unless-gap, NotBelow, StayTold, told-by, walk-rows, told-rows}
 use Rattle.demands.proofs.Running.{through-append, running, seen, running-number, running-next, running-range, seen-taken}
 use Rattle.demands.proofs.Exact.{exact-kept, line-told, standing-told, says-blind}
 use Rattle.demands.proofs.Walks.{walk-over}
-use Rattle.demands.proofs.Listing.{ShownBy}
+use Rattle.demands.proofs.Listing.{Listed}
 
 module _ (p : Property) (good : property-refusal (meant p) ≡ 0) where
   abbrev q : Words.Property
@@ -117,14 +117,14 @@ module _ (p : Property) (good : property-refusal (meant p) ≡ 0) where
   -- ---- rows
 
   -- the verdict of each row stands after its record
-  abbrev Stands : List Call → List Told → Type 0
+  abbrev Stands : List Call → List RecordTold → Type 0
   Stands before [] = Unit {0}
   Stands before (r ∷ rows) =
       (v : Verdict) × Standing q (watched q fresh (before ++ entry-call (r .entry) ∷ [])) v × (r .verdict ≡ verdict-number v)
       × Stands (before ++ entry-call (r .entry) ∷ []) rows
 
   not-below : (calls : List Call) (n : ℕ) (v : Verdict) → Standing q (watched q fresh calls) v → watched q fresh calls .clock .is-blind ≡ false
-      → n ≤ verdict-number v → (rows : List Told) → Stands calls rows → NotBelow n rows
+      → n ≤ verdict-number v → (rows : List RecordTold) → Stands calls rows → NotBelow n rows
   unfolding NotBelow
   not-below calls n v h o le [] st = tt
   not-below calls n v h o le (r ∷ rows) st = by (r .entry) st (λ l w k a m s. not-below (calls ++ Call.line l ∷ []) n w k a m rows s)
@@ -156,7 +156,7 @@ module _ (p : Property) (good : property-refusal (meant p) ≡ 0) where
       by true e = absurd (omega (arith, says-blind p good (watched q fresh calls) v e h, small))
 
   rows-stay : (calls : List Call) (n : ℕ) (v : Verdict) → Standing q (watched q fresh calls) v → n ≡ verdict-number v
-      → (rows : List Told) → Stands calls rows → StayTold n rows
+      → (rows : List RecordTold) → Stands calls rows → StayTold n rows
   unfolding StayTold
   rows-stay calls n v h e [] st = tt
   rows-stay calls n v h e (r ∷ rows) st = (
@@ -165,7 +165,7 @@ module _ (p : Property) (good : property-refusal (meant p) ≡ 0) where
   )
 
   -- from the verdict standing on the session
-  rows-from : (calls : List Call) (rows : List Told) → Stands calls rows → StayTold (standing (running p good calls)) rows
+  rows-from : (calls : List Call) (rows : List RecordTold) → Stands calls rows → StayTold (standing (running p good calls)) rows
   rows-from calls rows st = let v = standing-told p good calls in rows-stay calls (standing (running p good calls)) (v .0) (v .1) (v .2) rows st
 
   -- what a record tells is the verdict standing after it
@@ -205,6 +205,6 @@ module _ (p : Property) (good : property-refusal (meant p) ≡ 0) where
       (h .0, h .2, refl, rows-stand (before ++ entry-call e ∷ []) ((number + 1) % 2 ^ 64) entries (h .1) (h .4))
 
   -- nor does what a listing shows.
-  pub listing-stays : {size : ℕ} {reader : Reader} {row : Row → List ℕ} {before : List Call} {number : ℕ} {bytes text : List ℕ} (r : ShownBy p good size reader row before number bytes text)
+  pub listing-stays : {size : ℕ} {reader : Reader} {before : List Call} {number : ℕ} {bytes : List ℕ} (r : Listed p good size reader before number bytes)
       → StayTold (standing (running p good before)) (told-rows (r .rows))
   listing-stays {before} {number} r = rows-from before (told-rows (r .rows)) (rows-stand before number (r .entries) (r .rows) (r .are-rows))

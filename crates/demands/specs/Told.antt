@@ -8,7 +8,7 @@ use Rattle.session_record.specs.Step.{stepped-of}
 use Rattle.demands.specs.Texts.{Row}
 
 -- A record, and the number of the verdict after it.
-pub record Told : Type 0 where
+pub record RecordTold : Type 0 where
   pub entry : Entry
   pub verdict : ℕ
 
@@ -18,12 +18,12 @@ unless-gap (Entry.input k t) A = A
 unless-gap (Entry.output k t) A = A
 unless-gap (Entry.gap k t) A = Unit {0}
 
-unfoldable pub NotBelow : ℕ → List Told → Type 0
+unfoldable pub NotBelow : ℕ → List RecordTold → Type 0
 NotBelow n [] = Unit {0}
 NotBelow n (r ∷ rows) = unless-gap (r .entry) ((n ≤ r .verdict) × NotBelow n rows)
 
 -- Within a run no verdict falls: where a number is not 3 (blind), none up to the next gap is below it. n stood before the first row.
-unfoldable pub StayTold : ℕ → List Told → Type 0
+unfoldable pub StayTold : ℕ → List RecordTold → Type 0
 StayTold n [] = Unit {0}
 StayTold n (r ∷ rows) = (n < 3 → NotBelow n (r ∷ rows)) × StayTold (r .verdict) rows
 
@@ -34,10 +34,10 @@ told-by s (Entry.output k t) = stepped-of s (entry-call (Entry.output k t)) .ans
 told-by s (Entry.gap k t) = 3
 
 -- The records that a walk takes, with what each would tell as a single call.
-unfoldable pub walk-rows : Session → List Entry → List Told
+unfoldable pub walk-rows : Session → List Entry → List RecordTold
 walk-rows s [] = []
 walk-rows s (e ∷ entries) = record { entry = e; verdict = told-by s e } ∷ walk-rows (stepped-of s (entry-call e) .session) entries
 
 -- What the rows of a listing tell.
-abbrev pub told-rows : List Row → List Told
+abbrev pub told-rows : List Row → List RecordTold
 told-rows rows = map (λ (r : Row). record { entry = r .entry; verdict = verdict-number (r .verdict) }) rows
