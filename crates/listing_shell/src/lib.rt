@@ -3,14 +3,18 @@
 ghost use Prim.Native.Nat.{_≤_};
 ghost use mathlib.Core.Path.{_≡_};
 ghost use mathlib.Core.Bool.{true, false};
-ghost use lib.ListN.{length};
+ghost use lib.ListN.{length, take};
 ghost use Rattle.io.specs.Counts.{Counts};
+ghost use Rattle.property_form.specs.Form.{form-size};
+ghost use Rattle.property_form.specs.Read.{length-read};
 ghost use Rattle.record_form.specs.Record.{ReadBy};
 ghost use Rattle.table.specs.Table.{IsTable};
 ghost use Rattle.line_text.specs.Text.{room};
 ghost use Rattle.session_record.specs.Record.{out-of-range};
+ghost use Rattle.session_record.specs.Step.{fresh-of};
 ghost use Rattle.session_record.specs.Lent.{memory, Ready};
 ghost use Rattle.listing_shell.specs.Form.{size-of, reader-of, Lists};
+ghost use Rattle.listing_shell.specs.Next.{Begun, Follows};
 use held::Status;
 use libc::STDOUT_FILENO;
 use line_text::Text;
@@ -51,7 +55,7 @@ pub fn shown(text: Text, more: bool) -> bool
 // ends early and a read that fails leave fewer, which the answer then refuses.
 pub fn read_form(fd: i32, form: &mut [u8]) -> usize
     requires { ⌜ 71 ≤ length (now form) ⌝ }
-    ensures { λ r. ⌜ Counts r (now (form .exit)) ⌝ }
+    ensures { λ r. ⌜ Counts r (now (form .exit)) × (r ≤ form-size (length-read (take r (now (form .exit))))) ⌝ }
 {
     if io::read_full(fd, &mut form[..1]) == 0 {
         return 0;
@@ -62,7 +66,7 @@ pub fn read_form(fd: i32, form: &mut [u8]) -> usize
 
 // Reads the property.
 pub fn begun(fd: i32) -> Printed
-    ensures { λ r. ⌜ (r .text .len ≤ room) × (r .more ≡ true → out-of-range (r .session) ≡ false) ⌝ }
+    ensures { λ r. ⌜ Begun r × (r .text .len ≤ room) × (r .more ≡ true → out-of-range (r .session) ≡ false) ⌝ }
 {
     let mut form = [0u8; 71];
     let got = read_form(fd, &mut form);
@@ -116,10 +120,19 @@ fn next(
     printed::lent::record(p, table, rows, status, count, read)
 }
 
+// Writes what a record added, and answers whether the listing goes on. The form, the property and the number of records so far are there for
+// the contract alone: they say which text is the next of the listing, and no other can be put.
+fn put(form: Form, p: Property, records: u64, text: Text, more: bool) -> bool
+    requires { ⌜ Follows form p records text × (text .len ≤ room) ⌝ }
+    ensures { λ r. ⌜ (r ≡ true → more ≡ true) ⌝ }
+{
+    shown(text, more)
+}
+
 // Lists the records. The table is made once, and the rows are lent from record to record. A proved loop has to end, and
-// nothing says that the input does: the loop counts its turns down, from a number that no run uses up.
+// nothing says that the input does: the loop counts its turns, up to a number that no run comes to.
 fn records(fd: i32, form: Form, s: Session)
-    requires { ⌜ out-of-range s ≡ false ⌝ }
+    requires { ⌜ (s ≡ fresh-of (s .property) .session) × (out-of-range s ≡ false) ⌝ }
 {
     let p = s.property;
     let shared = s.shared;
@@ -127,15 +140,15 @@ fn records(fd: i32, form: Form, s: Session)
     let mut rows = session_record::rows_of(s);
     let mut status = shared.status;
     let mut count = 0;
-    let mut turns = u64::MAX;
-    while turns > 0 {
+    let mut turns = 0;
+    while turns < u64::MAX {
         let r = next(fd, form, p, &table, &mut rows, status, count);
-        if !shown(r.text, r.more) {
+        if !put(form, p, turns, r.text, r.more) {
             return;
         }
         status = r.status;
         count = r.count;
-        turns -= 1;
+        turns += 1;
     }
 }
 

@@ -44,7 +44,7 @@ last-alone r rest rest′ e = ap (λ (t : Bool). shown (r .text) ++ cond t rest 
 
 module _ (size : ℕ) (reader : Reader) (reads : Reads size reader) where
   -- Fewer bytes than a record are the last.
-  short-last : (s : Session) (count : ℕ) (bytes : List ℕ) → length bytes < size → printed-by reader s count bytes .more ≡ false
+  pub short-last : (s : Session) (count : ℕ) (bytes : List ℕ) → length bytes < size → printed-by reader s count bytes .more ≡ false
   unfolding printed-by
   short-last s count bytes h = go (out-of-range s)
     where

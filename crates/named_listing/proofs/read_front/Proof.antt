@@ -1,4 +1,4 @@
--- `named_listing::read_front` meets its contract.
+-- `named_listing::read_front` meets its contract: no more is read than was asked for.
 use Prim.Native.Nat.{ℕ, _≤_}
 use mathlib.Core.List.{List, _++_}
 use native.Mathlib.Omega.{arith}
@@ -18,7 +18,10 @@ slice-aggregate-read-full : tie.Need-slice-aggregate-read-full
 slice-aggregate-read-full c = counts (c .before .before .args .size) (now (c .before .before .args .list)) (c .before .before .pre) .1
 
 returns : tie.Need-returns
-returns c = let r = c .before .before .read-full in front-counts (r .result) (r .last .1 .0) _ (r .ensures .0)
+returns c =
+    let k = c .before .before in
+    let r = k .read-full in
+    (front-counts (r .result) (r .last .1 .0) _ (r .ensures .0), omega (arith, r .ensures .0, r .kept .1 .0, slice-aggregate-read-full (k .before)))
 
 pub read-front-spec : {M : Type 1} → statement M
 read-front-spec =
