@@ -106,7 +106,7 @@ ReadAsCalls s bytes (c ∷ calls) =
     × ReadAsCalls (stepped-of s c .session) (drop record-size bytes) calls
 
 -- So many records have been read and taken: as these calls on a fresh session, which have made the one at hand.
-pub record SoFar (m : Memory) (taken : ℕ) (calls : List Call) : Type 0 where
+pub record TakenSoFar (m : Memory) (taken : ℕ) (calls : List Call) : Type 0 where
   pub read : List ℕ
   pub whole : length read ≡ record-size * taken
   pub as-calls : ReadAsCalls (fresh-of (m .property) .session) read calls
@@ -115,7 +115,7 @@ pub record SoFar (m : Memory) (taken : ℕ) (calls : List Call) : Type 0 where
 -- "the run open at the end record": one was read behind so many that were taken, and the session at hand has this run open.
 pub record OpenAtEnd (m : Memory) (taken : ℕ) (run : Run) : Type 0 where
   pub calls : List Call
-  pub so-far : SoFar m taken calls
+  pub so-far : TakenSoFar m taken calls
   pub behind : List ℕ
   pub at-end : read-as (record-answer behind (latest-of (record-in m))) ≡ ReadAs.end
   pub is-open : seen (m .property) calls .clock .is-blind ≡ false

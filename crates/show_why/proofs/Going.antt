@@ -1,5 +1,5 @@
 -- The loop over the records: what is kept is the run that is open, from a fresh session on.
-use Prim.Native.Nat.{ℕ, _+_, _-_, _^_, _≤_, _<_}
+use Prim.Native.Nat.{ℕ, _+_, _≤_}
 use mathlib.Core.Path.{_≡_, refl, sym, ap, subst, _∙_}
 use mathlib.Core.Bool.{false}
 use mathlib.Core.List.{List, [], _∷_, _++_, append-nil}
@@ -22,7 +22,7 @@ use Rattle.session_record.specs.Lent.{Memory, memory, record-in, Ready}
 use Rattle.session_record.proofs.Running.{fresh-record}
 use Rattle.walk.specs.declared.Did.{Did}
 use Rattle.walk.specs.declared.Did.the-variants.{Took, Ended}
-use Rattle.open_run.specs.Kept.{Places, Keeps, seen, Stands, calls-as, Goes, Next, SoFar, Open}
+use Rattle.open_run.specs.Kept.{Places, Keeps, seen, Stands, calls-as, Goes, Next, TakenSoFar, Open}
 use Rattle.open_run.proofs.Standing.{agrees, blind-same}
 use Rattle.open_run.proofs.Reading.{TakenCall, took-call, ended-end, call-whole, read-more}
 
@@ -34,21 +34,17 @@ read-next {m} {k} {did = did} {after = after} {k′ = k′} bytes few h g =
 
 -- ---- the records, one after the other
 
--- The turns that are gone: each took a record.
-abbrev pub gone : (turns : ℕ) → ℕ
-gone turns = 2 ^ 64 - 1 - turns
-
--- What the records so far have made of a fresh session, with turns left to count as many lines more.
+-- What the records so far have made of a fresh session: each turn took one, and the run has no more lines than that.
 pub record Going (m : Memory) (k : Places) (turns : ℕ) : Type 0 where
   pub calls : List Call
-  pub so-far : SoFar m (gone turns) calls
+  pub so-far : TakenSoFar m turns calls
   pub keeps : Keeps (seen (m .property) calls .run) k
   pub ready : Ready m
-  pub left : k .count + turns < 2 ^ 64
+  pub few : k .count ≤ turns
 
 -- None has been read on a fresh session.
 pub going-fresh : (p : Property) → property-refusal (meant p) ≡ 0 → (rows : List (List ℕ)) (status : Status) (k : Places) → Ready (memory p rows status)
-    → record-in (memory p rows status) ≡ record-of p (fresh-by p) → Keeps [] k → Going (memory p rows status) k (2 ^ 64 - 1)
+    → record-in (memory p rows status) ≡ record-of p (fresh-by p) → Keeps [] k → Going (memory p rows status) k 0
 unfolding stepped-through watched
 going-fresh p good rows status k ready e h =
     record {
@@ -56,11 +52,11 @@ going-fresh p good rows status k ready e h =
       so-far = record { read = []; whole = refl; as-calls = refl; session = e ∙ sym (fresh-record p good) };
       keeps = h;
       ready = ready;
-      left = omega (arith, h .counted);
+      few = omega (arith, h .counted);
     }
 
 module _ (m : Memory) (k : Places) (turns : ℕ) (g : Going m k turns) where
-  abbrev had : SoFar m (gone turns) (g .calls)
+  abbrev had : TakenSoFar m turns (g .calls)
   had = g .so-far
 
   -- what the bytes that came stand for, as a record at the session's latest stamp
@@ -76,8 +72,8 @@ module _ (m : Memory) (k : Places) (turns : ℕ) (g : Going m k turns) where
 
   -- A record that was taken is one more.
   pub going-on : {did : Did} {rows : List (List ℕ)} {status : Status} {k′ : Places} → Next m k did (memory (m .property) rows status) k′ → did ≡ Took
-      → 0 < turns → Going (memory (m .property) rows status) k′ (turns - 1)
-  going-on n e some =
+      → Going (memory (m .property) rows status) k′ (turns + 1)
+  going-on n e =
       let t : TakenCall (record-in m) (came (n .bytes)) = took-call (record-in m) (came (n .bytes)) (sym e ∙ n .goes .did-is) in
       let long : record-size ≤ length (n .bytes) = call-whole (n .bytes) (latest-of (record-in m)) (t .is) in
       let stands = stands-next n (ReadAs.call (t .call)) (t .is) in
@@ -86,7 +82,7 @@ module _ (m : Memory) (k : Places) (turns : ℕ) (g : Going m k turns) where
         so-far =
             record {
               read = had .read ++ n .bytes;
-              whole = omega (arith, length-append (had .read) (n .bytes), had .whole, n .few, long, g .left);
+              whole = omega (arith, length-append (had .read) (n .bytes), had .whole, n .few, long);
               as-calls =
                   read-more (fresh-of (m .property) .session) (had .read) (g .calls) (n .bytes) (t .call) (n .few) (had .as-calls)
                   (subst (λ (s : Session). read-as (record-answer (n .bytes) (latest-of s)) ≡ ReadAs.call (t .call)) (had .session) (t .is))
@@ -95,12 +91,12 @@ module _ (m : Memory) (k : Places) (turns : ℕ) (g : Going m k turns) where
             };
         keeps = stands .keeps;
         ready = n .goes .ready;
-        left = omega (arith, n .goes .few, g .left);
+        few = omega (arith, n .goes .few, g .few);
       }
 
   -- At an end record what is kept, where a run is open, is that run.
   pub going-open : {did : Did} {rows : List (List ℕ)} {status : Status} {k′ : Places} → Next m k did (memory (m .property) rows status) k′ → did ≡ Ended
-      → status .clock .blind ≡ false → Open (memory (m .property) rows status) (gone turns) k′
+      → status .clock .blind ≡ false → Open (memory (m .property) rows status) turns k′
   going-open {rows = rows} {status = status} {k′ = k′} n e opened =
       let good : property-refusal (meant (m .property)) ≡ 0 = g .ready .ranged .formed in
       let is : came (n .bytes) ≡ ReadAs.end = ended-end (record-in m) (came (n .bytes)) (sym e ∙ n .goes .did-is) in

@@ -150,7 +150,7 @@ fn tell(
 }
 
 // Takes the records. The table is made once, and the rows are lent from record to record. A proved loop has to end, and nothing says
-// that the input does: the loop counts its turns down, from a number that no run uses up.
+// that the input does: the loop counts its turns, up to a number that no run comes to.
 fn records(fd: i32, p: Property)
     requires { ⌜ property-refusal (meant p) ≡ 0 ⌝ }
 {
@@ -164,8 +164,8 @@ fn records(fd: i32, p: Property)
     let mut actions = [0u8; 256];
     let mut stamps = [0u64; 256];
     let mut count = 0;
-    let mut turns = u64::MAX;
-    while turns > 0 {
+    let mut turns = 0;
+    while turns < u64::MAX {
         let r = next(
             fd,
             p,
@@ -182,7 +182,7 @@ fn records(fd: i32, p: Property)
         count = r.count;
         match did {
             Did::Took => {
-                turns -= 1;
+                turns += 1;
             }
             Did::Ended => {
                 let clock = status.clock;
@@ -191,8 +191,7 @@ fn records(fd: i32, p: Property)
                     return;
                 }
                 // Each turn before this one took a record.
-                let taken = u64::MAX - turns;
-                tell(p, &rows, status, taken, &outputs, &actions, &stamps, count);
+                tell(p, &rows, status, turns, &outputs, &actions, &stamps, count);
                 return;
             }
             Did::Not(number) => {

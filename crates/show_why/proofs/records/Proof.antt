@@ -1,6 +1,6 @@
--- `show_why::records` is safe and ends: the rows are ready before each record, what is kept is the run that is open, and the turns that
--- are left are fewer each time.
-use Prim.Native.Nat.{_-_, _≤_}
+-- `show_why::records` is safe and ends: the rows are ready before each record, what is kept is the run that is open, and each turn is one
+-- record more.
+use Prim.Native.Nat.{_-_, _^_, _≤_}
 use mathlib.Core.Path.{_≡_, sym, subst}
 use native.Mathlib.Omega.{arith}
 use lib.ListN.{length}
@@ -12,7 +12,7 @@ use Rattle.line_text.proofs.Held.{text-len}
 use Rattle.reason_text.proofs.Fits.{blind-fits}
 use Rattle.open_run.specs.Kept.{Places, in-lines, Open}
 use Rattle.open_run.proofs.Keeping.{keeps-fresh}
-use Rattle.show_why.proofs.Going.{gone, Going, going-fresh, going-on, going-open}
+use Rattle.show_why.proofs.Going.{Going, going-fresh, going-on, going-open}
 use borrow.Author.Needs.{needs}
 use Rattle.show_why.proofs.records.Statement.{statement}
 use Rattle.show_why.proofs.records.Tie as tie
@@ -23,7 +23,7 @@ Inv-loop fd p table rows₀ status₀ outputs₀ actions₀ stamps₀ count₀ t
 
 abbrev μ-loop : tie.MeasureT-loop
 μ-loop fd p table rows₀ status₀ outputs₀ actions₀ stamps₀ count₀ turns₀ rows status outputs actions stamps count turns =
-    turns
+    2 ^ 64 - 1 - turns
 
 -- from a record back to the turn of the loop and the entry
 abbrev turning : tie.After-stamps Inv-loop μ-loop → tie.In-loop Inv-loop μ-loop
@@ -78,10 +78,10 @@ next-requires : tie.Need-next-requires Inv-loop μ-loop
 next-requires c κs =
     let t = turning c in
     let g = t .before .loop .inv .0 in
-    (g .ready, made (t .before) .before .table .ensures, omega (arith, g .left, t .loop-test .taken))
+    (g .ready, made (t .before) .before .table .ensures, omega (arith, g .few, t .loop-test .taken))
 
-sub-turns : tie.Need-sub-turns Inv-loop μ-loop
-sub-turns c = omega arith
+add-turns : tie.Need-add-turns Inv-loop μ-loop
+add-turns c = omega arith
 
 loop-less : tie.Need-loop-less Inv-loop μ-loop
 loop-less c = omega arith
@@ -90,7 +90,7 @@ loop-again : tie.Need-loop-again Inv-loop μ-loop
 loop-again c =
     let k = told (c .before) in
     let t = turn k in
-    (going-on _ _ _ (t .before .loop .inv .0) (k .next .ensures) (c .enum-told .given .1) (t .loop-test .taken), search needs)
+    (going-on _ _ _ (t .before .loop .inv .0) (k .next .ensures) (c .enum-told .given .1), search needs)
 
 write-requires : tie.Need-write-requires Inv-loop μ-loop
 write-requires c κs = subst (λ (t : Text). t .len ≤ room) (sym (c .blind .ensures)) (text-len _ blind-fits)
@@ -99,13 +99,10 @@ returns : tie.Need-returns Inv-loop μ-loop
 returns c = tt
 
 -- where a run is open at the end record
-opened : (e : tie.Else1 Inv-loop μ-loop) → Open (after (last e)) (gone (turn (last e) .before .loop .turns)) (lines (last e))
+opened : (e : tie.Else1 Inv-loop μ-loop) → Open (after (last e)) (turn (last e) .before .loop .turns) (lines (last e))
 opened e =
     let k = last e in
     going-open _ _ _ (turn k .before .loop .inv .0) (k .next .ensures) (ended e .enum-told2 .given .1) (e .if1 .left)
-
-sub-taken : tie.Need-sub-taken Inv-loop μ-loop
-sub-taken c = let t = turn (last c) in omega (arith, t .before .loop .inv .0 .left)
 
 slice-aggregate-tell-2 : tie.Need-slice-aggregate-tell-2 Inv-loop μ-loop
 slice-aggregate-tell-2 c = let e = c .before .before in sym (opened e .keeps .outputs-long)
@@ -141,14 +138,13 @@ records-spec =
     (λ c. search needs)
     next-requires
     (λ c. search needs)
-    sub-turns
+    add-turns
     loop-less
     loop-again
     (λ c. search needs)
     (λ c κs. search needs)
     write-requires
     returns
-    sub-taken
     (λ c. search needs)
     slice-aggregate-tell-2
     slice-aggregate-tell-3
