@@ -6,7 +6,7 @@ use mathlib.Core.Bool.{true, false}
 use mathlib.Core.List.{List, _∷_, map}
 use lib.ListN.{length}
 use Rattle.laws.specs.Places.{first, padded}
-use Rattle.meaning.specs.Words.{Action}
+use Rattle.meaning.specs.Words.{Action, action-number}
 use Rattle.meaning.specs.Limits.{last-stamp}
 use Rattle.meaning.specs.Numbers.{property-refusal}
 use Rattle.meaning.specs.Matcher.{Lengths}
@@ -39,15 +39,11 @@ abbrev pub front-of : List (List ℕ) → Span → ℕ → Front Lengths
 front-of rows s j = record { before = set-at rows s j 0; held = first (held-at rows s j) (s .count) }
 
 -- The way back, for a record that a caller keeps. Places not in use are filled up with 0.
-abbrev pub number-of : Action → ℕ
-number-of (Action.input k) = k
-number-of (Action.output k) = k
-
 abbrev pub stored-held : Front Lengths → List ℕ
 stored-held f = padded 65 0 (map (λ (h : Held Lengths). h .line .stamp) (f .held))
 
 abbrev pub stored-acts : Front Lengths → List ℕ
-stored-acts f = padded 65 0 (map (λ (h : Held Lengths). number-of (h .line .action)) (f .held))
+stored-acts f = padded 65 0 (map (λ (h : Held Lengths). action-number (h .line .action)) (f .held))
 
 -- The sets of a front's cuts, from the first to the last.
 abbrev pub sets-of : Front Lengths → List Lengths

@@ -16,7 +16,7 @@ use Rattle.session_record.proofs.Steps.{fresh-refused, fresh-taken}
 use Rattle.record_form.specs.Record.{RecordAnswer, Bytes, record-size, write-refusal, written, answered}
 use Rattle.record_form.specs.Record
 use Rattle.trace_form.specs.Trace.{Entry, kind-of, action-of, stamp-of}
-use Rattle.trace_form.proofs.Trace.{Bytes-drop}
+use Rattle.laws.proofs.Bytes.{Bytes-drop}
 use Rattle.record_form.proofs.RoundTrip.{record-one-packing}
 use Rattle.demands.specs.Traces.{BeginsWith}
 

@@ -1,13 +1,13 @@
 -- What the session record says after any calls: its property, the open inputs, the latest stamp and whether it is blind.
 use Prim.Native.Nat.{ℕ, suc, _+_, _*_, _^_, _≤_, _<_}
-use mathlib.Core.Path.{_≡_, refl, sym, _∙_, ap, ap₂, subst}
+use mathlib.Core.Path.{_≡_, refl, sym, _∙_, ap, subst}
 use mathlib.Core.Bool.{Bool, true, false, cond, not, _&&_, _||_}
 use mathlib.Core.List.{List, [], _∷_, _++_, map}
 use native.Mathlib.Omega.{arith}
 use lib.ListN.{length, length-map, getD}
 use lib.Dec.{T, leb, ltb, eqb, leb→le, nleb→lt}
 use Rattle.laws.specs.Places.{padded, some-below}
-use Rattle.meaning.specs.Words.{Action, Line}
+use Rattle.meaning.specs.Words.{action-number, Line}
 use Rattle.meaning.specs.Words
 use Rattle.meaning.specs.Node.{Breaks, ins}
 use Rattle.meaning.specs.Numbers.{property-refusal}
@@ -23,11 +23,10 @@ use Rattle.property.specs.Meant.{meant}
 use Rattle.property.specs.declared.Property.{Property}
 use Rattle.matcher.specs.Sets.{stray}
 use Rattle.rows.specs.Rows.{place, word}
-use Rattle.cuts.specs.Fronts
 use Rattle.session_record.specs.declared.Session.{Session}
 use Rattle.session_record.specs.Record.{record-of, out-of-range}
 use Rattle.session_record.proofs.Running.{running-record}
-use Rattle.demands.specs.Called.{number-of, open-inputs, held-inputs, held-stamps, held-actions}
+use Rattle.demands.specs.Called.{open-inputs, held-inputs, held-stamps, held-actions}
 use Rattle.demands.proofs.Running.{running, seen}
 
 -- ---- the open inputs, of closed ones and open ones
@@ -57,10 +56,6 @@ told-lines : (f : Line → ℕ) (hs : List (Held Lengths)) → map (λ (h : Held
 told-lines f [] = refl
 told-lines f (h ∷ hs) = ap (λ (l : List ℕ). f (h .line) ∷ l) (told-lines f hs)
 
-number-same : (a : Action) → Fronts.number-of a ≡ number-of a
-number-same (Action.input k) = refl
-number-same (Action.output k) = refl
-
 module _ (p : Property) (good : property-refusal (meant p) ≡ 0) where
   abbrev R : Reading (meant p) (Breaks (meant p))
   R = lengths-reading (meant p) good
@@ -84,12 +79,8 @@ module _ (p : Property) (good : property-refusal (meant p) ≡ 0) where
         blind = refl;
         count = sym (ap length opened ∙ length-map (f .held) _);
         stamps = ap (padded 65 0) (told-lines (λ (l : Line). l .stamp) (f .held) ∙ ap (map (λ (l : Line). l .stamp)) (sym opened));
-        actions = ap (padded 65 0) (told-lines (λ (l : Line). Fronts.number-of (l .action)) (f .held) ∙ numbers (lines (f .held)) ∙ ap (map (λ (l : Line). number-of (l .action))) (sym opened));
+        actions = ap (padded 65 0) (told-lines (λ (l : Line). action-number (l .action)) (f .held) ∙ ap (map (λ (l : Line). action-number (l .action))) (sym opened));
       }
-    where
-      numbers : (ls : List Line) → map (λ (l : Line). Fronts.number-of (l .action)) ls ≡ map (λ (l : Line). number-of (l .action)) ls
-      numbers [] = refl
-      numbers (l ∷ ls) = ap₂ (λ (k : ℕ) (ks : List ℕ). k ∷ ks) (number-same (l .action)) (numbers ls)
   holds (blind clock) = record { property = refl; latest = refl; blind = refl; count = refl; stamps = refl; actions = refl }
 
   pub running-holds : (calls : List Call) → Holds (seen p good calls) (running p good calls)

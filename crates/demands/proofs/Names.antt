@@ -17,7 +17,7 @@ use Rattle.fields.proofs.Packed.{field-byte, field-byte-first}
 use Rattle.property_form.specs.Read
 use Rattle.record_form.specs.Record.{Bytes, record-answer}
 use Rattle.trace_form.proofs.Reader.{record-reads}
-use Rattle.trace_form.proofs.Trace.{Bytes-drop}
+use Rattle.laws.proofs.Bytes.{Bytes-drop, Bytes-take}
 use Rattle.name_list.specs.Names.{Entry, EntryGood, entry-form, first-byte, list-form, entries, entries-read, list-broken, names-in, action-number, Rising}
 use Rattle.names.specs.Lookup.{names-refusal, span, wanted, choice, Handed, name-of, either-name}
 use Rattle.name_list.proofs.Good.{good-long}
@@ -236,12 +236,6 @@ names-by site release gs gr ss sr (Action.output k) h =
     name-is site release ss sr true k (number-is site release k false false false (le-ltb 63 k h) gs gr)
 
 -- ---- the log behind the lists
-
-Bytes-take : (n : ℕ) (s : List ℕ) → Bytes s → Bytes (take n s)
-Bytes-take zero s h i = omega arith
-Bytes-take (suc n) [] h i = omega arith
-Bytes-take (suc n) (x ∷ s) h zero = h zero
-Bytes-take (suc n) (x ∷ s) h (suc i) = Bytes-take n s (λ j. h (suc j)) i
 
 front-bytes : (input : List ℕ) → Bytes input → Bytes (list-front input)
 front-bytes input h = Bytes-take (field input 0 16) (drop 2 input) (Bytes-drop 2 input h)

@@ -4,7 +4,7 @@ use mathlib.Core.Bool.{Bool, true, false, cond}
 use mathlib.Core.List.{List, [], _∷_, map}
 use lib.ListN.{replicate}
 use Rattle.laws.specs.Places.{padded}
-use Rattle.meaning.specs.Words.{Action, Property, Line}
+use Rattle.meaning.specs.Words.{Action, action-number, Property, Line}
 use Rattle.meaning.specs.Node.{ins}
 use Rattle.meaning.specs.Calls.{is-open, Watch}
 use Rattle.property.specs.declared.Property as Data
@@ -14,10 +14,6 @@ use Rattle.session_record.specs.declared.Session.{Session}
 abbrev pub action-if : (output : Bool) (number : ℕ) → Action
 action-if true number = Action.output number
 action-if false number = Action.input number
-
-abbrev pub number-of : Action → ℕ
-number-of (Action.input k) = k
-number-of (Action.output k) = k
 
 -- The open inputs of a run at a stamp, in their order: "An input of the run is open at stamp T if its stamp + 2·UB ≥ T."
 unfoldable pub open-inputs : Property → ℕ → List Line → List Line
@@ -33,7 +29,7 @@ abbrev pub held-stamps : List Line → List ℕ
 held-stamps lines = padded 65 0 (map (λ (l : Line). l .stamp) lines)
 
 abbrev pub held-actions : List Line → List ℕ
-held-actions lines = padded 65 0 (map (λ (l : Line). number-of (l .action)) lines)
+held-actions lines = padded 65 0 (map (λ (l : Line). action-number (l .action)) lines)
 
 -- "A refusal carries 0 in all other numbers": a property and a session of zeros.
 abbrev pub zeros : List ℕ

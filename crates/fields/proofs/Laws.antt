@@ -3,13 +3,13 @@ use Prim.Native.Nat.{ℕ, zero, suc, _+_, _-_, _*_, _/_, _%_, _^_, _≤_, _<_, z
 use mathlib.Core.Path.{_≡_, refl, sym, ap, ap₂, _∙_, subst}
 use mathlib.Core.Logic.{_⊎_, inl, inr, ⊎-elim}
 use mathlib.Core.List.{List, [], _∷_, _++_, append-assoc, append-nil}
-use native.Mathlib.Nat.{mod-lt, pow-suc, pow-succ', div-div-eq-div-mul, mul-assoc, add-assoc, add-zero, add-suc, zero-add, div-one, not-suc-le-zero, le-of-suc-le-suc, eq-or-lt-of-le}
+use native.Mathlib.Nat.{mod-lt, pow-suc, pow-succ', div-div-eq-div-mul, mul-assoc, add-assoc, add-zero, add-suc, div-one, not-suc-le-zero, le-of-suc-le-suc, eq-or-lt-of-le}
 use native.Mathlib.Numerals.{add-one}
 use native.Mathlib.Omega.{arith}
 use lib.Dec.{lit<}
 use lib.Pow.{pow-mono}
 use lib.ListN.{length, getD, length-append, List·getD-append}
-use lib.Seq.{getD-append-add, getD-at, ext-getD}
+use lib.Seq.{getD-append-add, getD-at}
 use Rattle.fields.specs.Fields.{digit, bit, number, bits, run, at, Bits, field}
 
 pub le-or-lt : (a b : ℕ) → (a ≤ b) ⊎ (b < a)
@@ -87,13 +87,6 @@ unfolding run
 run-same f g i j zero e = refl
 run-same f g i j (suc k) e =
     ap₂ (λ (l : List ℕ) (x : ℕ). l ++ (x ∷ [])) (run-same f g i j k (λ m h. e m (omega arith))) (e k (omega arith))
-
--- a list is the run of its own bits
-pub run-at : (l : List ℕ) (k : ℕ) → length l ≡ k → run (at l) 0 k ≡ l
-run-at l k e =
-    ext-getD 0 (run (at l) 0 k) l (length-run (at l) 0 k ∙ sym e)
-    (λ i h.
-    getD-run (at l) 0 k i (subst (λ (x : ℕ). i < x) (length-run (at l) 0 k) h) ∙ ap (at l) (zero-add i))
 
 -- ---- the number of a run
 

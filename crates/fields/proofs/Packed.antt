@@ -10,12 +10,9 @@ use lib.Dec.{lit<}
 use lib.ListN.{length, getD, take, drop, set, replicate, length-append, List·getD-append, List·getD-eq-default}
 use lib.Seq.{length-paste-head, take-all, drop-drop, paste, drop-cons, set-at, append-snoc, take-append-seam, take-length, drop-append-add, getD-at, ext-getD, getD-take, length-take-le}
 use Rattle.fields.specs.Fields.{digit, bit, number, field, bits, run, at, packed, size, form, Bits}
-use Rattle.fields.proofs.Laws.{le-or-lt, digit-lt, length-bits, length-run, getD-run, run-same, run-at, digit-number, number-digits, number-same, number-add, number-at}
+use Rattle.fields.proofs.Laws.{le-or-lt, digit-lt, length-bits, length-run, getD-run, digit-number, number-digits, number-same, number-add, number-at}
 
 -- ---- lists of bits
-
-pub at-append-lt : (l r : List ℕ) (i : ℕ) → i < length l → at (l ++ r) i ≡ at l i
-at-append-lt l r i h = List·getD-append l r 0 i h
 
 pub Bits-append : (l r : List ℕ) → Bits (at l) → Bits (at r) → Bits (at (l ++ r))
 Bits-append [] r bl br i = br i
@@ -176,15 +173,6 @@ field-of-form l a i k v r rest e ei b h =
         ap length e
         ∙ length-append (a ++ bits k v) r
         ∙ ap (λ (x : ℕ). x + length r) (length-append a (bits k v) ∙ ap₂ (λ (x y : ℕ). x + y) ei (length-bits k v))
-
-pub field-form : (a : List ℕ) (k v : ℕ) (r rest : List ℕ) → Bits (at (a ++ bits k v ++ r)) → v < 2 ^ k → field (form (a ++ bits k v ++ r) ++ rest) (length a) k ≡ v
-field-form a k v r rest b h = field-of-form (a ++ bits k v ++ r) a (length a) k v r rest refl refl b h
-
--- the bits of a form are the list that it was made of
-pub run-form : (l rest : List ℕ) → Bits (at l) → run (bit (form l ++ rest)) 0 (length l) ≡ l
-run-form l rest b =
-    run-same (bit (form l ++ rest)) (at l) 0 0 (length l) (λ m h. bit-form l rest b (0 + m) (omega (arith, h)))
-    ∙ run-at l (length l) refl
 
 -- back: bytes whose bits from bit n to a full byte are zero are the form of their first n bits
 pub form-run : (s : List ℕ) (n : ℕ) → size n ≤ length s → ((i : ℕ) → getD s i 0 < 256)

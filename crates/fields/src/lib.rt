@@ -8,7 +8,7 @@ ghost use Rattle.fields.specs.Fields.{digit, bit, field, number, bits, a
 
 // A byte as a number of 64 bits.
 pub fn wide(b: u8) -> u64
-    ensures { λ r. ⌜ r ≡ b ⌝ }
+    ensures { λ r. ⌜ (r ≡ b) × (b < 256) ⌝ }
 {
     b as u64
 }

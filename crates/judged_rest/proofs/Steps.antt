@@ -8,7 +8,6 @@ use borrow.Author.Tests.{eqb-true}
 use Rattle.meaning.specs.Words.{Line}
 use Rattle.meaning.specs.Numbers.{property-refusal}
 use Rattle.meaning.specs.Calls.{Call}
-use Rattle.meaning.specs.Calls
 use Rattle.meaning.proofs.Refusals.{unless-taken, unless-kept}
 use Rattle.property.specs.Meant.{meant}
 use Rattle.cuts.specs.Steps.{next-by, answer-by}

@@ -1,7 +1,7 @@
 -- A set's step by the table is the meaning's: `moved`, read off masks.
 use Prim.Native.Nat.{ℕ, zero, suc, _+_, _*_, _-_, _/_, _%_, _^_, _≤_, _<_}
 use mathlib.Core.Path.{_≡_, refl, sym, ap, ap₂, _∙_, subst, fun-ext}
-use mathlib.Core.Bool.{Bool, true, false, cond, not, _&&_, _||_, or-false, and-true, and-false}
+use mathlib.Core.Bool.{Bool, true, false, cond, not, _&&_, _||_, or-false, and-true, and-false, and-or-distrib-right}
 use mathlib.Core.List.{List}
 use native.Mathlib.Nat.{pow-suc, one-mul, div-lt-iff-lt-mul}
 use native.Mathlib.Omega.{arith}
@@ -18,8 +18,8 @@ use Rattle.property.specs.declared.Property.{Property}
 use Rattle.matcher.specs.Sets.{stepped, arranged}
 use Rattle.table.specs.Table.{action-at, row-of, IsTable}
 use Rattle.laws.proofs.Bits.{bit-low, bit-above, bit-none, bit-one}
-use Rattle.table.proofs.Recursion.{fall-back-le}
 use Rattle.meaning.proofs.Tests.{some-to-agree, some-to-none}
+use Rattle.meaning.proofs.Lengths.{fall-back-le}
 use Rattle.laws.proofs.Places.{length-first}
 
 -- The mask of all lengths below n.
@@ -107,15 +107,9 @@ some-to-or (suc n) f g = ap (λ (x : Bool). (f (suc n) || g (suc n)) || x) (some
     four false true false d = refl
     four false false c d = refl
 
-and-or : (a b c : Bool) → (a || b) && c ≡ (a && c) || (b && c)
-and-or true b true = refl
-and-or true true false = refl
-and-or true false false = refl
-and-or false b c = refl
-
 stepped-or : (n : ℕ) (f : ℕ → ℕ) (s t : ℕ → Bool) (j : ℕ) → stepped n f (λ k. s k || t k) j ≡ stepped n f s j || stepped n f t j
 stepped-or n f s t j =
-    some-to-agree n (λ k. (s k || t k) && eqb (f k) j) (λ k. (s k && eqb (f k) j) || (t k && eqb (f k) j)) (λ k h. and-or (s k) (t k) (eqb (f k) j))
+    some-to-agree n (λ k. (s k || t k) && eqb (f k) j) (λ k. (s k && eqb (f k) j) || (t k && eqb (f k) j)) (λ k h. and-or-distrib-right (s k) (t k) (eqb (f k) j))
     ∙ some-to-or n (λ k. s k && eqb (f k) j) (λ k. t k && eqb (f k) j)
 
 module _ (p : Property) (table : List ℕ) (is : IsTable p table) (output : Bool) (action at : ℕ)
@@ -130,7 +124,7 @@ module _ (p : Property) (table : List ℕ) (is : IsTable p table) (output : Bool
   entry-le k h =
       subst (λ (x : ℕ). x ≤ p .n) (sym (entry-is k h))
       (subst (λ (x : ℕ). matched-next (meant p .sequence) k (action-of output action) ≤ x) long
-      (fall-back-le (λ i. getD (meant p .sequence) i (Action.input 0)) (length (meant p .sequence)) k k (action-of output action)))
+      (fall-back-le (λ i. getD (meant p .sequence) i (Action.input 0)) (length (meant p .sequence)) k (action-of output action) k))
 
   abbrev a : Action
   a = action-of output action
@@ -251,7 +245,7 @@ module _ (p : Property) (table : List ℕ) (is : IsTable p table) (output : Bool
         (λ armed j.
         by-flag (stepped (p .n) f (λ k. s .at false k || s .at true k)) (s .with-broken) armed j
         ∙ ap (λ (x : Bool). x && flag armed j) (stepped-or (p .n) f (s .at false) (s .at true) j)
-        ∙ and-or (stepped (p .n) f (s .at false) j) (stepped (p .n) f (s .at true) j) (flag armed j)
+        ∙ and-or-distrib-right (stepped (p .n) f (s .at false) j) (stepped (p .n) f (s .at true) j) (flag armed j)
         ∙ ap₂ (λ (x y : Bool). x || y)
         (sym (part-on (s .at false) false false armed j refl refl))
         (sym (part-on (s .at true) true false armed j o i)))

@@ -1,6 +1,5 @@
 -- The P cases hold of the definitions. Each verdict is computed by the step over cuts, which is proved to be the definition's.
-use Prim.Native.Nat.{ℕ, zero, suc}
-use mathlib.Core.Path.{_≡_, refl, sym, _∙_, ap, subst}
+use mathlib.Core.Path.{_≡_, refl, _∙_, ap, subst}
 use mathlib.Core.Bool.{Bool, true, _&&_}
 use mathlib.Core.List.{List, [], _∷_}
 use lib.Dec.{eqb}
@@ -10,7 +9,7 @@ use Rattle.meaning.specs.Calls.{Call, Watch, fresh, refusal, taken, watc
 use Rattle.meaning.specs.Matcher.{ends, fall-back, some-to}
 use Rattle.meaning.specs.Step.{lengths, fresh-cuts, closed, appended, swept, last-set, cuts-verdict, cuts-after}
 use Rattle.meaning.specs.Cases.{B, Case, case, cases, AsSaid, GapSaid, inp}
-use Rattle.meaning.proofs.Tests.{both}
+use Rattle.meaning.proofs.Tests.{both, same-number}
 use Rattle.meaning.proofs.Sets.{Reading}
 use Rattle.meaning.proofs.Calls.{grown-agrees, standing-agrees, standing-unique}
 use Rattle.meaning.proofs.Lengths.{lengths-reading}
@@ -18,23 +17,6 @@ use Rattle.meaning.proofs.Lengths.{lengths-reading}
 -- the reading of property B
 abbrev R : Reading B (Breaks B)
 R = lengths-reading B refl
-
-by-number : ℕ → Verdict
-by-number zero = Verdict.clear
-by-number (suc zero) = Verdict.suspect
-by-number (suc (suc zero)) = Verdict.certain
-by-number (suc (suc (suc n))) = Verdict.blind
-
-numbered : (v : Verdict) → by-number (verdict-number v) ≡ v
-unfolding by-number
-numbered Verdict.clear = refl
-numbered Verdict.suspect = refl
-numbered Verdict.certain = refl
-numbered Verdict.blind = refl
-
--- verdicts are told apart by their numbers
-pub number-one : (v w : Verdict) → verdict-number v ≡ verdict-number w → v ≡ w
-number-one v w e = sym (numbered v) ∙ ap by-number e ∙ numbered w
 
 -- a test that antt computes over the whole list
 all-taken : Watch → List Call → Bool
@@ -65,7 +47,7 @@ by-test (c ∷ rest) e =
     both (all-taken fresh (c .calls)) (eqb (verdict-number (stepped (c .calls))) (verdict-number (c .verdict))) (q .0) in (
       (
         taken-by-test fresh (c .calls) (r .0),
-        subst (Standing B (watched B fresh (c .calls))) (number-one (stepped (c .calls)) (c .verdict) (eqb-true _ _ (r .1)))
+        subst (Standing B (watched B fresh (c .calls))) (same-number (stepped (c .calls)) (c .verdict) (eqb-true _ _ (r .1)))
             (standing-agrees R (grown-agrees R (c .calls))),
       ),
       by-test rest (q .1),

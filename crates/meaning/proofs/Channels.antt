@@ -77,10 +77,6 @@ outs-cons y u h = out-cons (y .action) (y .stamp) (outs u) h
 pub ins-skip : (y : Line) (u : List Line) → Out y → ins (y ∷ u) ≡ ins u
 ins-skip y u h = out-drop (y .action) (y .stamp) (ins u) h
 
-pub ins-of-in : {u : List Line} → All In u → ins u ≡ u
-ins-of-in done = refl
-ins-of-in (also {x} {xs} h r) = ins-cons x xs h ∙ ap (λ (l : List Line). x ∷ l) (ins-of-in r)
-
 pub outs-of-in : {u : List Line} → All In u → outs u ≡ []
 outs-of-in done = refl
 outs-of-in (also {x} {xs} h r) = outs-skip x xs h ∙ outs-of-in r
@@ -247,9 +243,6 @@ module _ (p : Property) where
   all-rec : {P : Line → Type 0} (rec : List Line → List Line) (i o : List Line) → Keeps i rec → All Out o → All P i → All P o → All P (rec o)
   all-rec {P} rec i o k a pi po =
       all-channels (rec o) (subst (All P) (sym (k .ins-kept o a)) pi) (subst (All P) (sym (k .outs-kept o a)) po)
-
-  pub all-merged : {P : Line → Type 0} {i o : List Line} → All In i → All Out o → All P i → All P o → All P (merged i o)
-  all-merged {i} {o} h k pi po = all-rec (merged i) i o (keeps h) k pi po
 
   module _ (b : Bounds p) where
     into-pairs : (t : ℕ) (x : Line) (rec : List Line → List Line) (i : List Line) → In x → All In i → Keeps i rec

@@ -10,13 +10,10 @@ use Rattle.meaning.specs.Calls.{is-open}
 use Rattle.meaning.specs.Step.{Sets, Held, Front, closed}
 use Rattle.meaning.proofs.Lists.{All, done, also, all-map, from-all, snoc-append}
 use Rattle.meaning.proofs.Fronts.{lines}
-use Rattle.meaning.proofs.Sets.{Matcher, Reading}
+use Rattle.meaning.proofs.Sets.{Reading}
 use Rattle.meaning.proofs.Ways.{Right, last, cut}
 
 module _ {p : Property} {Breaking : List Line → Type 0} (R : Reading p Breaking) where
-  abbrev M : Matcher
-  M = R .matcher
-
   abbrev 𝓢 : Sets
   𝓢 = R .sets
 

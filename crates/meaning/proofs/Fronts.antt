@@ -88,11 +88,6 @@ module _ (p : Property) (𝓢 : Sets) where
       ap₂ _∷_ (ap (held (H 0 .line)) q)
       (swept-by y (λ i. H (suc i)) (λ i. S (suc i)) n (swept-one p 𝓢 y s (H 0)) q (λ i k. h (suc i) (omega arith)))
 
-  pub output-by : (k : ℕ) (y : Line) (L : ℕ → Line) (S S′ : ℕ → 𝓢 .Set) (n : ℕ)
-      → 𝓢 .move (S 0) y ≡ S′ 0 → ((i : ℕ) → i < n → swept-one p 𝓢 y (S′ i) (held-by L S i) ≡ S′ (suc i))
-      → front-next p 𝓢 (Action.output k) y (front-by L S n) ≡ front-by L S′ n
-  output-by k y L S S′ n e h = ap₂ front e (swept-by y (held-by L S) S′ n (𝓢 .move (S 0) y) e h)
-
   -- The sets of the cuts after an output: the first is given, and each next one comes of the one before.
   unfoldable pub swept-set : Line → 𝓢 .Set → (ℕ → Held (𝓢 .Set)) → ℕ → 𝓢 .Set
   swept-set y s H zero = s

@@ -22,7 +22,7 @@ use Rattle.meaning.proofs.Sets.{SetLaws, Reading}
 use Rattle.meaning.proofs.Matching.{state-matcher, matcher-reads}
 
 -- a matched length is never above the sequence's
-fall-back-le : (s : ℕ → Action) (n k : ℕ) (a : Action) (j : ℕ) → fall-back s n k a j ≤ n
+pub fall-back-le : (s : ℕ → Action) (n k : ℕ) (a : Action) (j : ℕ) → fall-back s n k a j ≤ n
 unfolding fall-back
 fall-back-le s n k a zero = go (goes-on s n k zero a) refl
   where

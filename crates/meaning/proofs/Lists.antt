@@ -3,7 +3,8 @@ use Prim.Native.Nat.{ℕ, _≤_}
 use native.Mathlib.Nat.{le-trans}
 use mathlib.Core.Path.{Path, _≡_, refl, sym, ap}
 use mathlib.Core.Logic.{_⊎_, inl, inr}
-use mathlib.Core.List.{List, [], _∷_, _++_, map, append-assoc, head-eq-of-cons-eq, tail-eq-of-cons-eq, nil≢cons}
+use mathlib.Core.List.{List, [], _∷_, _++_, map, head-eq-of-cons-eq, tail-eq-of-cons-eq, nil≢cons}
+pub use lib.Seq.{append-snoc as snoc-append}
 use Rattle.meaning.specs.Words.{Action, Line, StampsFrom}
 use Rattle.meaning.specs.Node.{keep-input, keep-output, ins, outs}
 
@@ -43,11 +44,6 @@ module _ {A : Type 0} where
   all-of f [] = done
   all-of f (x ∷ xs) = also (f x) (all-of f xs)
 
-  -- the order of two quantifiers over two lists
-  pub all-swap : {R : A → A → Type 0} {xs ys : List A} → All (λ x. All (R x) ys) xs → All (λ y. All (λ x. R x y) xs) ys
-  all-swap {ys} done = all-of (λ y. done) ys
-  all-swap (also h r) = all-map (λ y k. also (k .0) (k .1)) (all-both h (all-swap r))
-
   -- a list is empty or has a last element
   pub data Ended : List A → Type 0 where
     empty : Ended []
@@ -60,9 +56,6 @@ module _ {A : Type 0} where
   pub end-of : (xs : List A) → Ended xs
   end-of [] = empty
   end-of (x ∷ xs) = more x (end-of xs)
-
-  pub snoc-append : (xs : List A) (x : A) (ys : List A) → (xs ++ x ∷ []) ++ ys ≡ xs ++ x ∷ ys
-  snoc-append xs x ys = append-assoc xs (x ∷ []) ys
 
   pub not-empty : (xs : List A) (x : A) → Path (List A) [] (xs ++ x ∷ []) → ⊥
   not-empty [] x e = nil≢cons e

@@ -9,7 +9,7 @@ use mathlib.Core.List.{tail-eq-of-cons-eq, nil≢cons, reverse, reverseAux, reve
 use native.Mathlib.Omega.{arith}
 use lib.ListN.{length}
 use lib.Dec.{eqb}
-use borrow.Author.Tests.{eq-eqb, ne-eqb}
+use borrow.Author.Tests.{eq-eqb, ne-eqb, not-true as flipped}
 use Rattle.meaning.specs.Words.{Action, Property, Line}
 use Rattle.meaning.specs.Node.{actions, Breach, Breaks}
 use Rattle.meaning.specs.Matcher.{place, matched-next, is-input, State, outside, matched-on, state-next, is-broken}
@@ -60,10 +60,6 @@ module _ (p : Property) where
   outside-output : (a : Action) → outside p a ≡ true → (k : ℕ) × (a ≡ Action.output k) × (p .allowed k ≡ false)
   outside-output (Action.input k) e = absurd (true≢false (sym e))
   outside-output (Action.output k) e = (k, refl, flipped (p .allowed k) e)
-    where
-      flipped : (t : Bool) → not t ≡ true → t ≡ false
-      flipped true q = sym q
-      flipped false q = refl
 
   output-outside : (k : ℕ) → p .allowed k ≡ false → outside p (Action.output k) ≡ true
   output-outside k e = ap not e

@@ -66,6 +66,10 @@ pub pairs-cross : {p : Property} (u v : List Line) → Pairs p (u ++ v) → Cros
 pairs-cross [] v h = done
 pairs-cross (x ∷ u) v (first a r) = also (all-right u v a) (pairs-cross u v r)
 
+pub never-fall-tail : (m : ℤ) (ms : List ℤ) → NeverFall (m ∷ ms) → NeverFall ms
+never-fall-tail m [] h = tt
+never-fall-tail m (n ∷ ms) h = h .1
+
 -- from moments to pairs
 module _ (p : Property) where
   window-stand : (x : Action) (a : ℕ) (y : Action) (b : ℕ) (m n : ℤ)
@@ -82,10 +86,6 @@ module _ (p : Property) where
   skip-one : (m n : ℤ) (ms : List ℤ) → NeverFall (m ∷ n ∷ ms) → NeverFall (m ∷ ms)
   skip-one m n [] h = tt
   skip-one m n (k ∷ ms) h = (le-in m k (omega (arith, le-out (h .0), le-out (h .1 .0))), h .1 .1)
-
-  never-fall-tail : (m : ℤ) (ms : List ℤ) → NeverFall (m ∷ ms) → NeverFall ms
-  never-fall-tail m [] h = tt
-  never-fall-tail m (n ∷ ms) h = h .1
 
   head-stands : (l : Line) (m : ℤ) → Window p (l .action) (l .stamp) m → (ls : List Line) (ms : List ℤ)
       → Given p ls ms → NeverFall (m ∷ ms) → All (May p l) ls

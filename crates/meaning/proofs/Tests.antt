@@ -1,12 +1,13 @@
--- Tests and what they say: of two tests, of two actions, of the numbers up to n.
+-- Tests and what they say: of two tests, of two actions, of two verdicts, of the numbers up to n.
 use Prim.Native.Nat.{ℕ, zero, suc, _≤_, _<_}
 use mathlib.Core.Path.{_≡_, refl, sym, _∙_, ap, ap₂, subst}
 use mathlib.Core.Logic.{_⊎_, inl, inr}
-use mathlib.Core.Bool.{Bool, true, false, _&&_, _||_, or-false, true≢false}
+use mathlib.Core.Bool.{Bool, true, false, _&&_, _||_, true≢false}
 use native.Mathlib.Omega.{arith}
 use lib.Dec.{leb}
 use borrow.Author.Tests.{leb-true, leb-false, eqb-true, eq-eqb}
 use Rattle.meaning.specs.Words.{Action}
+use Rattle.meaning.specs.Node.{Verdict, verdict-number}
 use Rattle.meaning.specs.Matcher.{same, some-to}
 
 pub not-true : (b : Bool) → (b ≡ true → ⊥) → b ≡ false
@@ -43,6 +44,23 @@ pub same-refl : (a : Action) → same a a ≡ true
 same-refl (Action.input k) = eq-eqb k k refl
 same-refl (Action.output k) = eq-eqb k k refl
 
+by-number : ℕ → Verdict
+by-number zero = Verdict.clear
+by-number (suc zero) = Verdict.suspect
+by-number (suc (suc zero)) = Verdict.certain
+by-number (suc (suc (suc n))) = Verdict.blind
+
+numbered : (v : Verdict) → by-number (verdict-number v) ≡ v
+unfolding by-number
+numbered Verdict.clear = refl
+numbered Verdict.suspect = refl
+numbered Verdict.certain = refl
+numbered Verdict.blind = refl
+
+-- verdicts are told apart by their numbers
+pub same-number : (v w : Verdict) → verdict-number v ≡ verdict-number w → v ≡ w
+same-number v w e = sym (numbered v) ∙ ap by-number e ∙ numbered w
+
 -- Some number up to n, or none.
 pub some-to-found : (n : ℕ) (f : ℕ → Bool) → some-to n f ≡ true → (k : ℕ) × (k ≤ n) × (f k ≡ true)
 unfolding some-to
@@ -76,9 +94,3 @@ pub some-to-agree : (n : ℕ) (f g : ℕ → Bool) → ((k : ℕ) → k ≤ n �
 unfolding some-to
 some-to-agree zero f g h = h zero (omega arith)
 some-to-agree (suc n) f g h = ap₂ _||_ (h (suc n) (omega arith)) (some-to-agree n f g (λ k l. h k (omega arith)))
-
--- none below n
-pub some-to-last : (n : ℕ) (f : ℕ → Bool) → ((k : ℕ) → k < n → f k ≡ false) → some-to n f ≡ f n
-unfolding some-to
-some-to-last zero f h = refl
-some-to-last (suc n) f h = ap (λ (b : Bool). f (suc n) || b) (some-to-none n f (λ k l. h k (omega arith))) ∙ or-false (f (suc n))

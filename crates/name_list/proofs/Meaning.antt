@@ -7,9 +7,10 @@ use native.Mathlib.Omega.{arith}
 use lib.ListN.{length}
 use lib.Dec.{eqb, ltb}
 use borrow.Author.Tests.{ltb-true, ltb-false, eqb-true, eqb-false, eq-eqb, ne-eqb}
+use Rattle.laws.specs.Bytes.{Bytes}
 use Rattle.meaning.specs.Words.{Action}
 use Rattle.name_list.specs.Names.{Entry, first-byte, action-read, name-in, names-in, list-broken, entries, EntryGood, Rising}
-use Rattle.name_list.proofs.Packed.{Small, good-packs, one-packing, first-good}
+use Rattle.name_list.proofs.Packed.{good-packs, one-packing, first-good}
 
 -- the name at the front, or behind it
 name-by : (e : Entry) (es : List Entry) (a : Action) (t : Bool) → eqb (first-byte (e .action)) (first-byte a) ≡ t → name-in (e ∷ es) a ≡ cond t (e .name) (name-in es a)
@@ -76,5 +77,5 @@ same-entries (e ∷ es) (f ∷ fs) least r q h =
     ap₂ _∷_ (entry-same e f (r .1) (q .1) b name) (same-entries es fs (suc (first-byte (e .action))) (r .2) q′ (behind-same e es f fs b (r .2) q′ h))
 
 -- Two lists that are taken and give every action the same name are the same bytes.
-pub one-list : (l m : List ℕ) → Small l → Small m → list-broken l ≡ false → list-broken m ≡ false → ((a : Action) → names-in l a ≡ names-in m a) → l ≡ m
+pub one-list : (l m : List ℕ) → Bytes l → Bytes m → list-broken l ≡ false → list-broken m ≡ false → ((a : Action) → names-in l a ≡ names-in m a) → l ≡ m
 one-list l m sl sm el em h = one-packing l m sl sm el em (same-entries (entries l) (entries m) 0 (good-packs l sl el .rising) (good-packs m sm em .rising) h)

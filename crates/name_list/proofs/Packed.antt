@@ -5,11 +5,13 @@ use mathlib.Core.Path.{_≡_, refl, sym, _∙_, ap, ap₂, subst}
 use mathlib.Core.Bool.{Bool, true, false, _||_, not, cond}
 use mathlib.Core.List.{List, [], _∷_, _++_}
 use native.Mathlib.Omega.{arith}
-use lib.ListN.{length, drop, getD, length-append, take-append-drop}
-use lib.Seq.{drop-drop, getD-drop, take-append-seam, drop-append-seam}
+use lib.ListN.{length, drop, length-append, take-append-drop}
+use lib.Seq.{drop-drop, take-append-seam, drop-append-seam}
 use lib.Dec.{ltb, eqb}
 use borrow.Author.Tests.{ltb-true, ltb-false, le-ltb, eq-eqb, ne-eqb}
+use Rattle.laws.specs.Bytes.{Bytes}
 use Rattle.laws.proofs.Tests.{or-split, neither}
+use Rattle.laws.proofs.Bytes.{Bytes-drop}
 use Rattle.meaning.specs.Words.{Action}
 use Rattle.name_list.specs.Names.{Entry, first-byte, entry-form, list-form, action-read, entry-read, entries-read, entries, AllInside, action-number, EntryGood, Rising}
 use Rattle.name_list.specs.Names.{first, name-size, entry-size, name-read, any-outside, entry-broken, entries-broken, list-broken}
@@ -32,13 +34,6 @@ none-outside [] h = refl
 none-outside (b ∷ rest) h = neither (neither (le-ltb b 33 (h .0)) (le-ltb 126 b (h .1))) (none-outside rest (h .2))
 
 -- ---- what is taken is packed
-
--- No list here holds more than a byte in a place.
-abbrev pub Small : List ℕ → Type 0
-Small l = (i : ℕ) → getD l i 0 < 256
-
-small-behind : (n : ℕ) (l : List ℕ) → Small l → Small (drop n l)
-small-behind n l h i = subst (λ (b : ℕ). b < 256) (sym (getD-drop n l i 0)) (h (n + i))
 
 no-bytes : (l : List ℕ) → length l ≤ 0 → l ≡ []
 no-bytes [] h = refl
@@ -65,7 +60,7 @@ packs-none : (least : ℕ) (l : List ℕ) (es : List Entry) → length l ≤ 0 �
 packs-none least l es h e = subst (λ (x : List Entry). Packs least x l) (sym e) (record { packed = no-bytes l h ∙ (unfold list-form in refl); rising = unfold Rising in tt })
 
 -- one entry more
-packs-more : (least : ℕ) (l : List ℕ) (es : List Entry) → Small l → Whole least l → Packs (suc (first l)) es (drop (entry-size l) l) → Packs least (entry-read l ∷ es) l
+packs-more : (least : ℕ) (l : List ℕ) (es : List Entry) → Bytes l → Whole least l → Packs (suc (first l)) es (drop (entry-size l) l) → Packs least (entry-read l ∷ es) l
 packs-more least l es small w rest = record { packed = whole; rising = unfold Rising in (order, good, further) }
   where
     own : first-byte (entry-read l .action) ≡ first l
@@ -100,7 +95,7 @@ packs-more least l es small w rest = record { packed = whole; rising = unfold Ri
         ∙ (λ i. sym own i ∷ sym long i ∷ sym behind i)
         ∙ (unfold list-form in refl)
 
-packs-by : (most least : ℕ) (l : List ℕ) → Small l → entries-broken (suc most) least l ≡ false
+packs-by : (most least : ℕ) (l : List ℕ) → Bytes l → entries-broken (suc most) least l ≡ false
     → (entries-broken most (suc (first l)) (drop (entry-size l) l) ≡ false → Packs (suc (first l)) (entries-read most (drop (entry-size l) l)) (drop (entry-size l) l))
     → (t : Bool) → (t ≡ true → 0 < length l) → (t ≡ false → length l ≤ 0) → Packs least (entries-read (suc most) l) l
 packs-by most least l small e on false y n = packs-none least l (entries-read (suc most) l) (n refl) (read-end (suc most) l (n refl))
@@ -111,19 +106,19 @@ packs-by most least l small e on true y n =
     (packs-more least l (entries-read most (drop (entry-size l) l)) small (g .whole)
     (on (ap (λ (k : ℕ). entries-broken k (suc (first l)) (drop (entry-size l) l)) same ∙ g .behind)))
 
-packs : (most least : ℕ) (l : List ℕ) → Small l → entries-broken most least l ≡ false → Packs least (entries-read most l) l
+packs : (most least : ℕ) (l : List ℕ) → Bytes l → entries-broken most least l ≡ false → Packs least (entries-read most l) l
 packs zero least l small e = packs-none least l (entries-read zero l) (ltb-false 0 (length l) (unfold entries-broken in e)) (unfold entries-read in refl)
 packs (suc most) least l small e =
-    packs-by most least l small e (λ f. packs most (suc (first l)) (drop (entry-size l) l) (small-behind (entry-size l) l small) f)
+    packs-by most least l small e (λ f. packs most (suc (first l)) (drop (entry-size l) l) (Bytes-drop (entry-size l) l small) f)
     (ltb 0 (length l)) (ltb-true 0 (length l)) (ltb-false 0 (length l))
 
 -- "what a packed list means": the entries that it packs
-pub good-packs : (list : List ℕ) → Small list → list-broken list ≡ false → Packs 0 (entries list) list
+pub good-packs : (list : List ℕ) → Bytes list → list-broken list ≡ false → Packs 0 (entries list) list
 unfolding entries
 good-packs list small e = packs (length list) 0 list small (good-entries list e)
 
 -- Two lists that are taken, with the same entries, are the same bytes.
-pub one-packing : (l m : List ℕ) → Small l → Small m → list-broken l ≡ false → list-broken m ≡ false → entries l ≡ entries m → l ≡ m
+pub one-packing : (l m : List ℕ) → Bytes l → Bytes m → list-broken l ≡ false → list-broken m ≡ false → entries l ≡ entries m → l ≡ m
 one-packing l m sl sm el em e = good-packs l sl el .packed ∙ ap list-form e ∙ sym (good-packs m sm em .packed)
 
 -- ---- what is packed is taken, and read back

@@ -6,6 +6,7 @@ use mathlib.Core.List.{List, [], _∷_, _++_}
 use lib.ListN.{length, take, drop, getD}
 use lib.Dec.{ltb, eqb}
 use Rattle.meaning.specs.Words.{Action}
+pub use Rattle.meaning.specs.Words.{action-number}
 
 -- What an entry says: this action has this name.
 pub record Entry : Type 0 where
@@ -102,12 +103,8 @@ unfoldable pub AllInside : List ℕ → Type 0
 AllInside [] = Unit {0}
 AllInside (b ∷ rest) = (33 ≤ b) × (b ≤ 126) × AllInside rest
 
--- "k from 0 to 63"
-abbrev pub action-number : Action → ℕ
-action-number (Action.input k) = k
-action-number (Action.output k) = k
-
 pub record EntryGood (e : Entry) : Type 0 where
+  -- "k from 0 to 63"
   pub action-fits : action-number (e .action) ≤ 63
   pub some : 1 ≤ length (e .name)
   pub most : length (e .name) ≤ 40

@@ -11,13 +11,6 @@ ghost use Rattle.name_list.specs.Read.{list-size, list-refusal};
 // "A list above 8,192 bytes counts as broken."
 pub const MOST_BYTES: usize = 8192;
 
-// A byte as a number.
-pub fn number(b: u8) -> usize
-    ensures { λ r. ⌜ (r ≡ b) × (b < 256) ⌝ }
-{
-    b as usize
-}
-
 // No byte of a name.
 fn outside(b: u8) -> bool
     ensures { λ r. ⌜ r ≡ (ltb b 33 || ltb 126 b) ⌝ }
@@ -65,11 +58,11 @@ fn cut_short(s: &[u8]) -> bool
     if s.len() < 2 {
         return true;
     }
-    s.len() < 2 + number(s[1])
+    s.len() < 2 + fields::wide(s[1]) as usize
 }
 
 // The entry at the front of the bytes breaks a rule; `least` is the least first byte that it may have.
-fn entry_broken(s: &[u8], least: usize) -> bool
+fn entry_broken(s: &[u8], least: u64) -> bool
     ensures { λ r. ⌜ r ≡ entry-broken least (now (s .entry)) ⌝ }
 {
     if cut_short(s) {
@@ -78,13 +71,13 @@ fn entry_broken(s: &[u8], least: usize) -> bool
     if zero_bit_set(s[0]) {
         return true;
     }
-    if number(s[0]) < least {
+    if fields::wide(s[0]) < least {
         return true;
     }
     if size_outside(s[1]) {
         return true;
     }
-    let end = 2 + number(s[1]);
+    let end = 2 + fields::wide(s[1]) as usize;
     any_outside(&s[2..end])
 }
 
@@ -96,13 +89,13 @@ pub fn broken(list: &[u8]) -> bool
         return true;
     }
     let mut i = 0;
-    let mut least = 0;
+    let mut least: u64 = 0;
     while i < list.len() {
         if entry_broken(&list[i..], least) {
             return true;
         }
-        least = number(list[i]) + 1;
-        i += 2 + number(list[i + 1]);
+        least = fields::wide(list[i]) + 1;
+        i += 2 + fields::wide(list[i + 1]) as usize;
     }
     false
 }

@@ -1,11 +1,10 @@
 -- Document 02, CR 2: "A second program .. prints the same listing with one more field behind the action number".
-use Prim.Native.Nat.{ℕ, _-_}
+use Prim.Native.Nat.{ℕ}
 use mathlib.Core.Bool.{true, false, cond}
 use mathlib.Core.List.{List, []}
-use Rattle.meaning.specs.Words.{Action}
+use Rattle.meaning.specs.Words.{Action, action-number}
 use Rattle.meaning.specs.Calls.{Call}
 use Rattle.record_form.specs.Record.{gap}
-use Rattle.cuts.specs.Fronts.{number-of}
 use Rattle.session_record.specs.declared.Session.{Session}
 use Rattle.session_record.specs.Record.{count-of, out-of-range}
 use Rattle.session_record.specs.Step.{standing}
@@ -25,7 +24,7 @@ names-of site release (Action.output k) = name-of site release true k
 -- The line of a record that was taken as a call; a gap shows its number of lost lines in place of an action, and has no name.
 unfoldable pub named-call-text : (Action → List ℕ) → ℕ → Call → Session → List ℕ
 named-call-text names number (Call.line l) after =
-    named-line-text number (kind-of (l .action)) (number-of (l .action)) (names (l .action)) (l .stamp) (standing after) (count-of after)
+    named-line-text number (kind-of (l .action)) (action-number (l .action)) (names (l .action)) (l .stamp) (standing after) (count-of after)
 named-call-text names number (Call.mark g) after = named-line-text number gap (g .lost) [] (g .stamp) (standing after) (count-of after)
 
 -- By what a record does to the session: the last line has no name and is as it was.

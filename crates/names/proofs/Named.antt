@@ -1,5 +1,5 @@
 -- The part that is handed back holds the name that the entries give: the site's, or the release's.
-use Prim.Native.Nat.{ℕ, _+_, _≤_}
+use Prim.Native.Nat.{ℕ, _≤_}
 use mathlib.Core.Path.{_≡_, refl, sym, _∙_, ap, ap₂, subst}
 use mathlib.Core.Bool.{Bool, true, false, cond}
 use mathlib.Core.List.{List, [], _∷_, _++_}
@@ -9,11 +9,12 @@ use lib.Seq.{length-take-le, take-append-seam, drop-append-add}
 use lib.Dec.{eqb}
 use denote.Ref.{RefT, now}
 use borrow.Author.Tests.{eqb-true, eqb-false}
+use Rattle.laws.specs.Bytes.{Bytes}
 use Rattle.meaning.specs.Words.{Action}
 use Rattle.name_list.specs.Names.{Entry, first-byte, entry-form, list-form, name-in, names-in, list-broken, entries}
 use Rattle.names.specs.Lookup.{names-refusal, Span, name-span, Choice, asked, choice, Handed, part-of, name-of, either-name, wanted}
 use Rattle.names.proofs.Spans.{shifted, span-by, Inside, name-inside}
-use Rattle.name_list.proofs.Packed.{Small, good-packs}
+use Rattle.name_list.proofs.Packed.{good-packs}
 use Rattle.names.proofs.Handing.{taken, choice-refused, choice-taken}
 
 -- what is handed back has the name's bytes
@@ -53,7 +54,7 @@ span-name (e ∷ es) a = go (eqb (first-byte (e .action)) (first-byte a)) refl (
     go false h on = ap₂ at (span-by e es (first-byte a) false h) form ∙ moved (name-span es (first-byte a)) ∙ on ∙ sym (name-by false h)
 
 -- in a list that is taken
-pub list-name : (list : List ℕ) → Small list → list-broken list ≡ false → (a : Action) → at (name-span (entries list) (first-byte a)) list ≡ name-in (entries list) a
+pub list-name : (list : List ℕ) → Bytes list → list-broken list ≡ false → (a : Action) → at (name-span (entries list) (first-byte a)) list ≡ name-in (entries list) a
 list-name list small good a = ap (at (name-span (entries list) (first-byte a))) (good-packs list small good .packed) ∙ span-name (entries list) a
 
 -- the choice of a part is the choice of a name
@@ -78,7 +79,7 @@ asked-name site release p q inside = go (eqb (p .size) 0) refl
     go false h = parted false h ∙ some (at p site) (λ z. eqb-false (p .size) 0 h (sym long ∙ z))
 
 -- The name of an action by two lists that are taken.
-pub name-is : (site release : List ℕ) → Small site → Small release → (output : Bool) (action : ℕ) → names-refusal site release action ≡ 0
+pub name-is : (site release : List ℕ) → Bytes site → Bytes release → (output : Bool) (action : ℕ) → names-refusal site release action ≡ 0
     → name-of site release output action ≡ either-name (names-in site (wanted output action)) (names-in release (wanted output action))
 unfolding name-of
 name-is site release ss sr output action z =

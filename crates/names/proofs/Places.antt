@@ -7,11 +7,12 @@ use native.Mathlib.Omega.{arith}
 use lib.ListN.{length, length-append}
 use lib.Dec.{eqb}
 use borrow.Author.Tests.{eq-eqb, ne-eqb}
+use Rattle.laws.specs.Bytes.{Bytes}
 use Rattle.meaning.specs.Words.{Action}
 use Rattle.name_list.specs.Names.{Entry, first-byte, entry-form, list-form, name-in, list-broken, entries, EntryGood, Rising}
 use Rattle.names.specs.Lookup.{names-refusal, Span, span, name-span, wanted, asked, choice}
 use Rattle.names.proofs.Spans.{shifted, span-by}
-use Rattle.name_list.proofs.Packed.{Small, good-packs, behind-above}
+use Rattle.name_list.proofs.Packed.{good-packs, behind-above}
 use Rattle.names.proofs.Handing.{Taken, taken, choice-taken}
 
 -- ---- in one list
@@ -53,7 +54,7 @@ nowhere least (e ∷ es) a r h = go (eqb (first-byte (e .action)) (first-byte a)
 
 -- ---- in two
 
-module _ (site release : List ℕ) (small-site : Small site) (small-release : Small release) (output : Bool) (action : ℕ)
+module _ (site release : List ℕ) (small-site : Bytes site) (small-release : Bytes release) (output : Bool) (action : ℕ)
     (z : names-refusal site release action ≡ 0) where
   abbrev a : Action
   a = wanted output action
@@ -71,13 +72,13 @@ module _ (site release : List ℕ) (small-site : Small site) (small-release : Sm
   asked-as p q e f = choice-taken site release output action z ∙ ap₂ asked e f
 
   -- the entry of a list that is taken: its place, and it has a name
-  entry-at : (list : List ℕ) → Small list → list-broken list ≡ false → (xs : List Entry) (e : Entry) (ys : List Entry) → entries list ≡ xs ++ (e ∷ ys) → e .action ≡ a
+  entry-at : (list : List ℕ) → Bytes list → list-broken list ≡ false → (xs : List Entry) (e : Entry) (ys : List Entry) → entries list ≡ xs ++ (e ∷ ys) → e .action ≡ a
       → (name-span (entries list) (first-byte a) ≡ span (length (list-form xs) + 2) (length (e .name))) × (1 ≤ length (e .name))
   entry-at list small ok xs e ys q same =
       let r = subst (Rising 0) q (good-packs list small ok .rising) in
       (ap₂ name-span q (ap first-byte (sym same)) ∙ there 0 xs e ys r, keeps 0 xs e ys r .some)
 
-  none-at : (list : List ℕ) → Small list → list-broken list ≡ false → name-in (entries list) a ≡ [] → name-span (entries list) (first-byte a) ≡ span (length list) 0
+  none-at : (list : List ℕ) → Bytes list → list-broken list ≡ false → name-in (entries list) a ≡ [] → name-span (entries list) (first-byte a) ≡ span (length list) 0
   none-at list small ok none =
       nowhere 0 (entries list) a (good-packs list small ok .rising) none ∙ ap (λ (l : List ℕ). span (length l) 0) (sym (good-packs list small ok .packed))
 

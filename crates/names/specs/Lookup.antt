@@ -8,7 +8,8 @@ use lib.ListN.{length, take, drop}
 use lib.Dec.{ltb, eqb}
 use denote.Ref.{RefT, ptr, now}
 use Rattle.meaning.specs.Limits.{last-action}
-use Rattle.meaning.specs.Words.{Action}
+-- The action that is asked for: "a direction (bool) and an action number".
+pub use Rattle.meaning.specs.Words.{action-of as wanted}
 use Rattle.meaning.specs.Numbers.{given, first-of}
 use Rattle.name_list.specs.Names.{Entry, first-byte, entry-form, entries, list-broken}
 
@@ -32,11 +33,6 @@ name-span [] first = span 0 0
 name-span (e ∷ rest) first =
     cond (eqb (first-byte (e .action)) first) (span 2 (length (e .name)))
     (span (length (entry-form e) + name-span rest first .start) (name-span rest first .size))
-
--- The action that is asked for: "a direction (bool) and an action number".
-abbrev pub wanted : Bool → ℕ → Action
-wanted true k = Action.output k
-wanted false k = Action.input k
 
 -- The part that is handed back: whether it is one of the site's list, and which.
 pub record Choice : Type 0 where

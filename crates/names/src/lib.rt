@@ -30,8 +30,8 @@ fn lookup(list: &[u8], first: u8) -> &[u8]
     let mut i = 0;
     while i < list.len() {
         let start = i + 2;
-        let end = start + name_list::number(list[i + 1]);
-        if name_list::number(list[i]) == name_list::number(first) {
+        let end = start + fields::wide(list[i + 1]) as usize;
+        if fields::wide(list[i]) == fields::wide(first) {
             return &list[start..end];
         }
         i = end;

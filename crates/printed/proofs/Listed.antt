@@ -3,15 +3,14 @@ use Prim.Native.Nat.{ℕ, zero, suc}
 use mathlib.Core.Path.{_≡_, refl, sym, _∙_, ap, subst}
 use mathlib.Core.Bool.{Bool, true, false, cond}
 use mathlib.Core.List.{List, []}
+use Rattle.meaning.specs.Words.{action-of, action-number}
 use Rattle.meaning.specs.Calls.{Call, mark-at, unless-refused}
-use Rattle.property.specs.Meant.{action-of}
 use Rattle.record_form.specs.Record.{Reader, ReadBy, gap}
 use Rattle.trace_form.specs.ReadAs.{ReadAs, read-as, case-as}
 use Rattle.record_form.specs.declared.RecordRead.{RecordRead}
 use Rattle.record_form.specs.declared.RecordRead.the-variants.{Input, Output, Gap, End, Refused}
 use Rattle.trace_form.proofs.ReadAs.{read-case}
 use Rattle.held.specs.declared.Status.{Status}
-use Rattle.cuts.specs.Fronts.{number-of}
 use Rattle.cuts.specs.Steps.{line-of}
 use Rattle.session_record.specs.declared.Session.{Session}
 use Rattle.session_record.specs.declared.Stepped.{Stepped}
@@ -69,7 +68,7 @@ kind-same : (output : Bool) (action : ℕ) → cond output 1 0 ≡ kind-of (acti
 kind-same true action = refl
 kind-same false action = refl
 
-number-same : (output : Bool) (action : ℕ) → action ≡ number-of (action-of output action)
+number-same : (output : Bool) (action : ℕ) → action ≡ action-number (action-of output action)
 number-same true action = refl
 number-same false action = refl
 

@@ -21,7 +21,7 @@ use Rattle.session_record.proofs.Steps.{stays-in-range}
 use Rattle.session_record.proofs.Running.{fresh-record}
 use Rattle.walk.specs.declared.Stop.the-variants.{Refused}
 use Rattle.walk.specs.Walk.{One, one-of, stopped, walked-by, walk-on, walk-of}
-use Rattle.walk.proofs.Steps.{IsStep, one-step}
+use Rattle.walk.proofs.Steps.{StepOf, one-step}
 use Rattle.printout.specs.Text.{stop-text}
 use Rattle.printed.specs.declared.Printed.{Printed}
 use Rattle.printed.specs.Printed.{last-line, by-one, printed-by, printed-of, begun-of}
@@ -71,11 +71,6 @@ begins-fit bytes m = go (read-refusal bytes) formed m
         → out-of-range (fresh-of (answer n p .property) .session) ≡ false
     go zero h q = ap out-of-range (fresh-record p (h refl)) ∙ in-range p (h refl) (fresh-fit p)
     go (suc n) h q = let z : suc n ≡ 0 = eqb-true (suc n) 0 q in let f : ⊥ = omega arith in absurd f
-
-abbrev StepOf : Session → One → Type 0
-StepOf s One.ended = Unit {0}
-StepOf s (One.refused n) = Unit {0}
-StepOf s (One.took c after) = IsStep s c after
 
 -- A record that was taken leaves a session that refusal 10 does not name.
 pub stays-listed : (s : Session) (count : ℕ) (bytes : List ℕ) → out-of-range s ≡ false → printed-of s count bytes .more ≡ true → out-of-range (printed-of s count bytes .session) ≡ false

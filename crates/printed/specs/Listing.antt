@@ -36,12 +36,6 @@ listing-by size reader property records =
     header-text ++ and-more (begun-of property) (records-by size reader (begun-of property .session) (begun-of property .count) records)
 
 -- The same of document 01's records.
-abbrev pub lines-of : ℕ → Session → ℕ → List ℕ → List ℕ
-lines-of most s count bytes = lines-by record-size record-answer most s count bytes
-
-abbrev pub records-text : Session → ℕ → List ℕ → List ℕ
-records-text s count bytes = records-by record-size record-answer s count bytes
-
 abbrev pub listing-of : List ℕ → List ℕ → List ℕ
 listing-of property records = listing-by record-size record-answer property records
 

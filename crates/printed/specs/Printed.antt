@@ -3,12 +3,11 @@ use Prim.Native.Nat.{ℕ, zero, suc, _+_, _%_, _^_}
 use mathlib.Core.Bool.{true, false, cond}
 use mathlib.Core.List.{List, []}
 use lib.Dec.{eqb}
-use Rattle.meaning.specs.Words.{Action}
+use Rattle.meaning.specs.Words.{Action, action-number}
 use Rattle.meaning.specs.Calls.{Call}
 use Rattle.property_form.specs.Read.{read}
 use Rattle.record_form.specs.Record.{Reader, record-answer, input, output, gap}
 use Rattle.trace_form.specs.ReadAs.{read-as}
-use Rattle.cuts.specs.Fronts.{number-of}
 use Rattle.session_record.specs.declared.Session.{Session}
 use Rattle.session_record.specs.Record.{count-of, latest-of, out-of-range}
 use Rattle.session_record.specs.Step.{fresh-of, standing}
@@ -30,7 +29,7 @@ kind-of (Action.output k) = output
 -- open", the last two on the session after it. Document 02, CR 7: "the printing program shows it in the action column", a gap's number.
 unfoldable pub call-text : ℕ → Call → Session → List ℕ
 call-text number (Call.line l) after =
-    line-text number (kind-of (l .action)) (number-of (l .action)) (l .stamp) (standing after) (count-of after)
+    line-text number (kind-of (l .action)) (action-number (l .action)) (l .stamp) (standing after) (count-of after)
 call-text number (Call.mark g) after = line-text number gap (g .lost) (g .stamp) (standing after) (count-of after)
 
 -- The listing ends with this line; the session and the count are as they were.

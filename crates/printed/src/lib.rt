@@ -2,7 +2,7 @@
 pub mod lent;
 
 ghost use mathlib.Core.Path.{_≡_};
-ghost use mathlib.Core.List.{List, [], _∷_};
+ghost use mathlib.Core.List.{List, _∷_};
 ghost use Prim.Native.Nat.{ℕ, _≤_};
 ghost use Rattle.property_form.specs.Form.{form-size};
 ghost use Rattle.property_form.specs.Read.{length-read};
@@ -67,21 +67,12 @@ pub fn size(first: u8) -> usize
     (122 + 7 * n as usize + 7) / 8
 }
 
-fn nothing() -> Text
-    ensures { λ r. ⌜ r ≡ text-of [] ⌝ }
-{
-    Text {
-        bytes: [0u8; 96],
-        len: 0,
-    }
-}
-
 // What the property adds behind the header.
 fn opening(refusal: u64) -> Text
     ensures { λ r. ⌜ r ≡ text-of (opening-text refusal) ⌝ }
 {
     if refusal == 0 {
-        return nothing();
+        return line_text::empty();
     }
     printout::stop(0, refusal)
 }

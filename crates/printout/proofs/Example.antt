@@ -21,8 +21,9 @@ pub case-15 : header-text ++ line-text 1 0 0 100 0 1 ++ line-text 2 1 2 120 1 1 
 unfolding header-text line-text end-text decimal digits letter word
 case-15 = refl
 
--- "A gap prints action 0, `blind` and 0.": `4 G 0 200 blind 0`
-pub gap-line : line-text 4 2 0 200 3 0 ≡ 52 ∷ 32 ∷ 71 ∷ 32 ∷ 48 ∷ 32 ∷ 50 ∷ 48 ∷ 48 ∷ 32 ∷ 98 ∷ 108 ∷ 105 ∷ 110 ∷ 100 ∷ 32 ∷ 48 ∷ 10 ∷ []
+-- Document 02, CR 7, of a gap's number of lost lines: "the printing program shows it in the action column"; `blind` and 0 stay as they
+-- were. After 3 lost lines: `4 G 3 200 blind 0`
+pub gap-line : line-text 4 2 3 200 3 0 ≡ 52 ∷ 32 ∷ 71 ∷ 32 ∷ 51 ∷ 32 ∷ 50 ∷ 48 ∷ 48 ∷ 32 ∷ 98 ∷ 108 ∷ 105 ∷ 110 ∷ 100 ∷ 32 ∷ 48 ∷ 10 ∷ []
 unfolding line-text decimal digits letter word
 gap-line = refl
 
@@ -31,12 +32,12 @@ pub stop-line : stop-text 2 5 ≡ 115 ∷ 116 ∷ 111 ∷ 112 ∷ 32 ∷ 50 ∷ 
 unfolding stop-text decimal digits
 stop-line = refl
 
--- With names: `line kind action name stamp verdict open`, `1 I 0 switch 100 clear 1`, `4 G 0 - 200 blind 0`
-pub named-lines : named-header-text ++ named-line-text 1 0 0 (115 ∷ 119 ∷ 105 ∷ 116 ∷ 99 ∷ 104 ∷ []) 100 0 1 ++ named-line-text 4 2 0 [] 200 3 0
+-- With names: `line kind action name stamp verdict open`, `1 I 0 switch 100 clear 1`, `4 G 3 - 200 blind 0`
+pub named-lines : named-header-text ++ named-line-text 1 0 0 (115 ∷ 119 ∷ 105 ∷ 116 ∷ 99 ∷ 104 ∷ []) 100 0 1 ++ named-line-text 4 2 3 [] 200 3 0
     ≡ 108 ∷ 105 ∷ 110 ∷ 101 ∷ 32 ∷ 107 ∷ 105 ∷ 110 ∷ 100 ∷ 32 ∷ 97 ∷ 99 ∷ 116 ∷ 105 ∷ 111 ∷ 110 ∷ 32 ∷ 110 ∷ 97 ∷ 109 ∷ 101 ∷ 32 ∷ 115 ∷ 116 ∷ 97 ∷ 109 ∷ 112 ∷ 32
     ∷ 118 ∷ 101 ∷ 114 ∷ 100 ∷ 105 ∷ 99 ∷ 116 ∷ 32 ∷ 111 ∷ 112 ∷ 101 ∷ 110 ∷ 10
     ∷ 49 ∷ 32 ∷ 73 ∷ 32 ∷ 48 ∷ 32 ∷ 115 ∷ 119 ∷ 105 ∷ 116 ∷ 99 ∷ 104 ∷ 32 ∷ 49 ∷ 48 ∷ 48 ∷ 32 ∷ 99 ∷ 108 ∷ 101 ∷ 97 ∷ 114 ∷ 32 ∷ 49 ∷ 10
-    ∷ 52 ∷ 32 ∷ 71 ∷ 32 ∷ 48 ∷ 32 ∷ 45 ∷ 32 ∷ 50 ∷ 48 ∷ 48 ∷ 32 ∷ 98 ∷ 108 ∷ 105 ∷ 110 ∷ 100 ∷ 32 ∷ 48 ∷ 10 ∷ []
+    ∷ 52 ∷ 32 ∷ 71 ∷ 32 ∷ 51 ∷ 32 ∷ 45 ∷ 32 ∷ 50 ∷ 48 ∷ 48 ∷ 32 ∷ 98 ∷ 108 ∷ 105 ∷ 110 ∷ 100 ∷ 32 ∷ 48 ∷ 10 ∷ []
 unfolding named-header-text named-line-text front-text back-text shown-name decimal digits letter word
 named-lines = refl
 

@@ -3,6 +3,7 @@ ghost use mathlib.Core.Path.{_≡_};
 ghost use Prim.Native.Nat.{_≤_};
 ghost use Rattle.meaning.specs.Numbers.{property-refusal, any-action-above};
 ghost use Rattle.property.specs.Meant.{meant, sequence-of};
+ghost use Rattle.property.specs.Zeros.{zeros};
 use limits::LAST_ACTION;
 use limits::LAST_BOUND;
 use limits::MOST_ACTIONS;
@@ -17,6 +18,20 @@ pub struct Property {
     pub allowed: u64,
     pub lb: u64,
     pub ub: u64,
+}
+
+// Where there is no property: zeros.
+pub fn none() -> Property
+    ensures { λ r. ⌜ r ≡ zeros ⌝ }
+{
+    Property {
+        n: 0,
+        output: [false; 32],
+        number: [0; 32],
+        allowed: 0,
+        lb: 0,
+        ub: 0,
+    }
 }
 
 // Whether an action number of the sequence is above 63.

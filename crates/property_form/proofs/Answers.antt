@@ -12,10 +12,11 @@ use Rattle.meaning.specs.Numbers.{given, first-of, property-refusal}
 use Rattle.meaning.proofs.Refusals.{first-of-none, first-of-given, first-of-first, given-none, none-first, unless-taken, unless-kept}
 use Rattle.property.specs.declared.Property.{Property}
 use Rattle.property.specs.Meant.{meant}
+use Rattle.property.specs.Zeros.{zeros}
 use Rattle.property_form.specs.declared.PropertyRead.{PropertyRead}
 use Rattle.property_form.specs.declared.Written.{Written}
 use Rattle.property_form.specs.Form.{property-form, form-size}
-use Rattle.property_form.specs.Read.{length-read, property-read, too-short, pad-read, pad-broken, read-refusal, zeros, read, taken}
+use Rattle.property_form.specs.Read.{length-read, property-read, too-short, pad-read, pad-broken, read-refusal, read, taken}
 use Rattle.property_form.specs.Write.{write-refusal, written, left}
 
 -- ---- the reader

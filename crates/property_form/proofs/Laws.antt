@@ -15,6 +15,7 @@ use Rattle.meaning.specs.Words.{Action}
 use Rattle.laws.specs.Places.{first}
 use Rattle.property.specs.Meant.{action-of}
 use Rattle.laws.proofs.Places.{length-first, first-snoc, first-add, getD-first}
+use Rattle.laws.proofs.Filled.{getD-repeat}
 use Rattle.fields.specs.Fields.{digit, bits, Bits}
 use Rattle.fields.proofs.Laws.{le-or-lt, digit-zero, digit-suc, length-bits}
 use Rattle.fields.proofs.Packed.{paste-paste}
@@ -137,11 +138,6 @@ pub getD-places : {A : Type 0} (f : ℕ → A) (n i : ℕ) (d : A) → i < n →
 getD-places f n i d h =
     List·getD-append (first f n) (replicate (32 - n) d) d i (omega (arith, length-first f n)) ∙ getD-first f n i d h
 
-getD-same : {A : Type 0} (n i : ℕ) (d : A) → getD (replicate n d) i d ≡ d
-getD-same zero i d = refl
-getD-same (suc n) zero d = refl
-getD-same (suc n) (suc i) d = getD-same n i d
-
 -- a list of 32 places whose places from n on are d is its first n places
 pub places-getD : {A : Type 0} (l : List A) (n : ℕ) (d : A) → length l ≡ 32 → n ≤ 32 → ((i : ℕ) → n ≤ i → getD l i d ≡ d) → places (λ i. getD l i d) n d ≡ l
 places-getD l n d e h z =
@@ -155,7 +151,7 @@ places-getD l n d e h z =
         let split : i ≡ length (first (λ i. getD l i d) n) + (i - n) = omega (arith, length-first (λ i. getD l i d) n) in
         ap (λ (k : ℕ). getD (places (λ i. getD l i d) n d) k d) split
         ∙ getD-append-add (first (λ i. getD l i d) n) (replicate (32 - n) d) (i - n) d
-        ∙ getD-same (32 - n) (i - n) d
+        ∙ getD-repeat d (32 - n) (i - n)
 
 -- ---- masks, digit by digit
 

@@ -10,6 +10,7 @@ use borrow.Author.Tests.{le-ltb, eq-eqb}
 use lib.Dec.{eqb}
 use lib.ListN.{length, getD, replicate, take, drop, length-append, List·getD-eq-default}
 use lib.Seq.{getD-append-add, drop-at, length-take-le}
+use Rattle.laws.specs.Bytes.{Bytes}
 use Rattle.meaning.specs.Words.{Action}
 use Rattle.meaning.specs.Numbers.{given, first-of, property-refusal}
 use Rattle.property.specs.declared.Property.{Property}
@@ -18,7 +19,7 @@ use Rattle.property.specs.Meant.{action-of, meant}
 use Rattle.laws.specs.Bits.{bit as mask-bit}
 use Rattle.laws.proofs.Places.{length-first, first-same}
 use Rattle.property.proofs.Refusal.{taken-bounds, taken-number}
-use Rattle.fields.specs.Fields.{digit, bit, number, field, bits, run, at, size, form}
+use Rattle.fields.specs.Fields.{digit, bit, field, bits, run, at, size, form}
 use Rattle.fields.proofs.Laws.{number-zeros, zero-number, getD-run, length-bits}
 use Rattle.fields.proofs.Packed.{bit-form, field-of-form, form-run}
 use Rattle.property_form.specs.Form.{flag, sequence-bits, property-bits, property-form, form-bits, form-size}
@@ -33,7 +34,7 @@ use Rattle.property_form.proofs.ReadBits.{bits-read}
 -- ---- back: what is read is what is written
 
 -- The bytes taken are the form of the property read.
-pub form-read : (s : List ℕ) → ((i : ℕ) → getD s i 0 < 256) → read-refusal s ≡ 0 → property-form (meant (property-read s)) ≡ take (taken s) s
+pub form-read : (s : List ℕ) → Bytes s → read-refusal s ≡ 0 → property-form (meant (property-read s)) ≡ take (taken s) s
 unfolding property-form
 form-read s b e =
     ap form (bits-read s)
@@ -49,7 +50,7 @@ form-read s b e =
         sym (ap (bit s) i-is) ∙ zero-number (bit s) N (8 * size N - N) (pad-zero s (not-broken s e)) (i - N) (omega arith)
 
 -- Only one packing: bytes that are read as the same property are the same bytes.
-pub one-packing : (s t : List ℕ) → ((i : ℕ) → getD s i 0 < 256) → ((i : ℕ) → getD t i 0 < 256)
+pub one-packing : (s t : List ℕ) → Bytes s → Bytes t
     → read-refusal s ≡ 0 → read-refusal t ≡ 0 → meant (property-read s) ≡ meant (property-read t) → take (taken s) s ≡ take (taken t) t
 one-packing s t bs bt es et e = sym (form-read s bs es) ∙ ap property-form e ∙ form-read t bt et
 
@@ -250,7 +251,7 @@ write-then-rest p buf m e =
     ∙ ap (λ (k : ℕ). drop k buf) (sym (size-written (meant p) buf w))
 
 -- What the reader took, the writer writes again: the same bytes, as many.
-pub read-then-write : (s buf : List ℕ) → ((i : ℕ) → getD s i 0 < 256) → read s .refusal ≡ 0 → taken s ≤ length buf
+pub read-then-write : (s buf : List ℕ) → Bytes s → read s .refusal ≡ 0 → taken s ≤ length buf
     → (written (meant (read s .property)) buf ≡ record { refusal = 0; size = taken s })
     × (left (meant (read s .property)) buf ≡ take (taken s) s ++ drop (taken s) buf)
 read-then-write s buf b e h =

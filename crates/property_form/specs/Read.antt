@@ -10,6 +10,7 @@ use Rattle.meaning.specs.Calls.{unless-refused}
 use Rattle.property.specs.declared.Property.{Property}
 use Rattle.laws.specs.Places.{first}
 use Rattle.property.specs.Meant.{meant}
+pub use Rattle.property.specs.Zeros.{zeros}
 use Rattle.fields.specs.Fields.{bit, field}
 use Rattle.property_form.specs.declared.PropertyRead.{PropertyRead}
 use Rattle.property_form.specs.Form.{form-bits, form-size}
@@ -63,17 +64,6 @@ read-refusal s =
     first-of (given 7 (too-short s)) (first-of (given 8 (pad-broken s)) (property-refusal (meant (property-read s))))
 
 -- "A refusal carries 0 in all other numbers"
-abbrev pub zeros : Property
-zeros =
-    record {
-      n = 0;
-      output = replicate most-actions false;
-      number = replicate most-actions 0;
-      allowed = 0;
-      lb = 0;
-      ub = 0;
-    }
-
 abbrev pub answer : ℕ → Property → PropertyRead
 answer refusal p = record { refusal = refusal; property = unless-refused refusal p zeros }
 

@@ -38,14 +38,14 @@ pub fn read_property(s: &[u8]) -> PropertyRead
     if broken != 0 {
         return PropertyRead {
             refusal: broken,
-            property: read::none(),
+            property: property::none(),
         };
     }
     let n = read::length_of(s);
     if limits::MOST_ACTIONS < n {
         return PropertyRead {
             refusal: 1,
-            property: read::none(),
+            property: property::none(),
         };
     }
     let p = read::fields_of(s, n);
@@ -53,7 +53,7 @@ pub fn read_property(s: &[u8]) -> PropertyRead
     if refusal != 0 {
         return PropertyRead {
             refusal,
-            property: read::none(),
+            property: property::none(),
         };
     }
     PropertyRead {

@@ -6,7 +6,7 @@ ghost use lib.ListN.{length};
 ghost use Rattle.meaning.specs.Numbers.{given, first-of};
 ghost use Rattle.fields.specs.Fields.{bit};
 ghost use Rattle.property_form.specs.Form.{form-bits, form-size};
-ghost use Rattle.property_form.specs.Read.{length-read, places, output-read, number-read, mask, property-read, too-short, pad-broken, zeros};
+ghost use Rattle.property_form.specs.Read.{length-read, places, output-read, number-read, mask, property-read, too-short, pad-broken};
 
 pub fn size_of(n: usize) -> usize
     requires { ⌜ n < 64 ⌝ }
@@ -106,18 +106,5 @@ pub fn fields_of(s: &[u8], n: usize) -> property::Property
         allowed: allowed(s, 58 + 7 * n),
         lb: fields::field_at(s, 6, 26),
         ub: fields::field_at(s, 32, 26),
-    }
-}
-
-pub fn none() -> property::Property
-    ensures { λ r. ⌜ r ≡ zeros ⌝ }
-{
-    property::Property {
-        n: 0,
-        output: [false; 32],
-        number: [0; 32],
-        allowed: 0,
-        lb: 0,
-        ub: 0,
     }
 }

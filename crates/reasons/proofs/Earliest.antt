@@ -1,5 +1,5 @@
 -- The earliest moments of an order: the running maximum of the windows' lower ends. They exist where moments can be given, and are unique.
-use Prim.Native.Nat.{ℕ, _≤_, max}
+use Prim.Native.Nat.{ℕ, max}
 use mathlib.Core.Path.{_≡_, refl, ap₂}
 use mathlib.Core.List.{List, [], _∷_}
 use native.Mathlib.Omega.{arith}
@@ -9,7 +9,7 @@ use Rattle.meaning.specs.Words.{Action, Property, Line}
 use Rattle.meaning.specs.Node.{Window, Given, NeverFall, Timed}
 use Rattle.meaning.proofs.Whole.{le-out, le-in, minus-sum}
 use Rattle.meaning.proofs.Lists.{all-of}
-use Rattle.meaning.proofs.Pairs.{Bounds, Pairs, low, earliest, zero-under, earliest-given, earliest-never-fall, timed-pairs}
+use Rattle.meaning.proofs.Pairs.{Bounds, Pairs, never-fall-tail, low, earliest, zero-under, earliest-given, earliest-never-fall, timed-pairs}
 use Rattle.reasons.specs.Reasons.{NoneLater, Earliest}
 
 module _ (p : Property) where
@@ -29,10 +29,6 @@ module _ (p : Property) where
   above-next m n [] h f = tt
   above-next m n (k ∷ ns) h f = le-in _ k (omega (arith, le-out h, le-out (f .0)))
 
-  rest-rises : (n : ℤ) (ns : List ℤ) → NeverFall (n ∷ ns) → NeverFall ns
-  rest-rises n [] f = tt
-  rest-rises n (k ∷ ns) f = f .1
-
   none-later : (m : ℕ) (ls : List Line) (ns : List ℤ) → Given p ls ns → NeverFall ns → Above m ns → NoneLater (earliest p m ls) ns
   unfolding earliest
   none-later m [] [] g f h = tt
@@ -41,7 +37,7 @@ module _ (p : Property) where
   none-later m (l ∷ ls) (n ∷ ns) g f h =
       let first : (pos (max m (low p (l .action) (l .stamp))) -ℤ pos (p .UB)) ≤ℤ n =
       later m (low p (l .action) (l .stamp)) n h (low-first (l .action) (l .stamp) n (g .0)) in
-      (first, none-later (max m (low p (l .action) (l .stamp))) ls ns (g .1) (rest-rises n ns f) (above-next _ n ns first f))
+      (first, none-later (max m (low p (l .action) (l .stamp))) ls ns (g .1) (never-fall-tail n ns f) (above-next _ n ns first f))
 
   -- no window begins more than UB before 0
   from-zero : (ls : List Line) (ns : List ℤ) → Given p ls ns → Above 0 ns

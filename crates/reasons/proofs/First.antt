@@ -6,13 +6,8 @@ use mathlib.Core.Bool.{true≢false}
 use mathlib.Core.List.{List, [], _∷_, _++_, head-eq-of-cons-eq, tail-eq-of-cons-eq}
 use Rattle.meaning.specs.Words.{Action, Line}
 use Rattle.meaning.proofs.Channels.{IsIn, IsOut, In, Out}
+use Rattle.stays_told.specs.Falls.{output-at as sent, input-at as got}
 use Rattle.reasons.specs.Reasons.{Sooner, First, gets-in}
-
-abbrev sent : ℕ → ℕ → Line
-sent k t = record { action = Action.output k; stamp = t }
-
-abbrev got : ℕ → ℕ → Line
-got k t = record { action = Action.input k; stamp = t }
 
 -- an output is no input
 no-line : (k s j t : ℕ) → sent k s ≡ got j t → ⊥

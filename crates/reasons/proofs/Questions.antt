@@ -1,5 +1,5 @@
 -- The step over cuts with another start: the verdict of lines that follow on a state of the matcher.
-use Prim.Native.Nat.{ℕ, _+_, _≤_}
+use Prim.Native.Nat.{ℕ, _≤_}
 use mathlib.Core.Path.{_≡_, refl, sym, _∙_, ap, subst}
 use mathlib.Core.Logic.{_↔_}
 use mathlib.Core.Bool.{true, cond}
@@ -83,10 +83,6 @@ pub through-last : (p : Property) (𝓢 : Sets) (f : Front (𝓢 .Set)) (ls : Li
 unfolding through
 through-last p 𝓢 f [] l = refl
 through-last p 𝓢 f (k ∷ ls) l = through-last p 𝓢 (front-with p 𝓢 f k) ls l
-
-pub through-none : (p : Property) (𝓢 : Sets) (f : Front (𝓢 .Set)) → through p 𝓢 f [] ≡ f
-unfolding through
-through-none p 𝓢 f = refl
 
 -- a front with one cut
 abbrev pub single : {Set : Type 0} → Set → Front Set

@@ -1,16 +1,18 @@
 -- The line after which the verdict first reached its final level: it exists and is unique, and one line more leaves it or is it.
-use Prim.Native.Nat.{ℕ, zero, suc, _≤_, _<_}
+use Prim.Native.Nat.{ℕ, suc, _≤_, _<_}
 use mathlib.Core.Path.{_≡_, refl, sym, _∙_, ap, subst}
 use mathlib.Core.Bool.{Bool, true, false}
-use mathlib.Core.List.{List, [], _∷_, _++_, append-nil}
+use mathlib.Core.List.{[], _∷_, _++_, append-nil}
 use native.Mathlib.Omega.{arith}
 use lib.Dec.{eqb}
 use borrow.Author.Tests.{eqb-true, eqb-false}
 use lib.ListN.{length, take, drop, take-append-drop, length-append}
+use lib.Seq.{take-length, take-append-le}
 use Rattle.meaning.specs.Words.{Property, Line, Run, StampsFrom}
 use Rattle.meaning.specs.Node.{Verdict, verdict-number, IsVerdict, Breaks}
 use Rattle.meaning.specs.Numbers.{property-refusal}
 use Rattle.meaning.proofs.Lists.{snoc-append}
+use Rattle.meaning.proofs.Tests.{same-number}
 use Rattle.meaning.proofs.Pairs.{Bounds, good-bounds}
 use Rattle.meaning.proofs.Channels.{from-left}
 use Rattle.meaning.proofs.Facts.{verdict-unique}
@@ -18,42 +20,12 @@ use Rattle.stays_told.proofs.NeverFalls.{never-falls}
 use Rattle.stays_told.proofs.Calls.{has-verdict}
 use Rattle.reasons.specs.Reasons.{ReachedAt}
 
-pub take-whole : {A : Type 0} (l : List A) → take (length l) l ≡ l
-take-whole [] = refl
-take-whole (x ∷ l) = ap (λ (r : List _). x ∷ r) (take-whole l)
-
-pub take-within : {A : Type 0} (j : ℕ) (u v : List A) → j ≤ length u → take j (u ++ v) ≡ take j u
-take-within zero u v h = refl
-take-within (suc j) [] v h = let z : ⊥ = omega arith in absurd z
-take-within (suc j) (x ∷ u) v h = ap (λ (r : List _). x ∷ r) (take-within j u v (omega arith))
-
-pub same-number : (v w : Verdict) → verdict-number v ≡ verdict-number w → v ≡ w
-same-number Verdict.clear Verdict.clear e = refl
-same-number Verdict.suspect Verdict.suspect e = refl
-same-number Verdict.certain Verdict.certain e = refl
-same-number Verdict.blind Verdict.blind e = refl
-same-number Verdict.clear Verdict.suspect e = let z : ⊥ = omega arith in absurd z
-same-number Verdict.clear Verdict.certain e = let z : ⊥ = omega arith in absurd z
-same-number Verdict.clear Verdict.blind e = let z : ⊥ = omega arith in absurd z
-same-number Verdict.suspect Verdict.clear e = let z : ⊥ = omega arith in absurd z
-same-number Verdict.suspect Verdict.certain e = let z : ⊥ = omega arith in absurd z
-same-number Verdict.suspect Verdict.blind e = let z : ⊥ = omega arith in absurd z
-same-number Verdict.certain Verdict.clear e = let z : ⊥ = omega arith in absurd z
-same-number Verdict.certain Verdict.suspect e = let z : ⊥ = omega arith in absurd z
-same-number Verdict.certain Verdict.blind e = let z : ⊥ = omega arith in absurd z
-same-number Verdict.blind Verdict.clear e = let z : ⊥ = omega arith in absurd z
-same-number Verdict.blind Verdict.suspect e = let z : ⊥ = omega arith in absurd z
-same-number Verdict.blind Verdict.certain e = let z : ⊥ = omega arith in absurd z
-
 module _ (p : Property) (good : property-refusal p ≡ 0) where
   bounds : Bounds p
   bounds = good-bounds p good
 
   pub one-verdict : (run : Run) → StampsFrom 0 run → (v w : Verdict) → IsVerdict p run v → IsVerdict p run w → v ≡ w
   one-verdict run rise v w h k = verdict-unique p bounds run 0 rise (Breaks p) v w h k
-
-  front-rises : (j : ℕ) (run : Run) → StampsFrom 0 run → StampsFrom 0 (take j run)
-  front-rises j run rise = from-left 0 (take j run) (drop j run) (subst (StampsFrom 0) (sym (take-append-drop j run)) rise)
 
   -- "0 for clear"
   pub reached-empty : (v : Verdict) → IsVerdict p [] v → ReachedAt p [] 0
@@ -69,9 +41,9 @@ module _ (p : Property) (good : property-refusal p ≡ 0) where
         record {
           verdict = r .verdict;
           whole = w;
-          there = subst (λ (x : Run). IsVerdict p x (r .verdict)) (sym (take-within k run (l ∷ []) h)) (r .there);
+          there = subst (λ (x : Run). IsVerdict p x (r .verdict)) (sym (take-append-le k run (l ∷ []) h)) (r .there);
           none-before = λ j i e.
-              r .none-before j i (subst (λ (x : Run). IsVerdict p x (r .verdict)) (take-within j run (l ∷ []) (omega arith)) e);
+              r .none-before j i (subst (λ (x : Run). IsVerdict p x (r .verdict)) (take-append-le j run (l ∷ []) (omega arith)) e);
         }
 
     -- it has changed with this line: since it never falls, no front had it
@@ -83,9 +55,9 @@ module _ (p : Property) (good : property-refusal p ≡ 0) where
           whole = k;
           there =
               subst (λ (x : Run). IsVerdict p x w)
-              (sym (ap (λ (n : ℕ). take n (run ++ l ∷ [])) (let e : suc (length run) ≡ length (run ++ l ∷ []) = omega (arith, length-append run (l ∷ [])) in e) ∙ take-whole (run ++ l ∷ [])))
+              (sym (ap (λ (n : ℕ). take n (run ++ l ∷ [])) (let e : suc (length run) ≡ length (run ++ l ∷ []) = omega (arith, length-append run (l ∷ [])) in e) ∙ take-length (run ++ l ∷ [])))
               k;
-          none-before = λ j i e. before j i (subst (λ (x : Run). IsVerdict p x w) (take-within j run (l ∷ []) (omega arith)) e);
+          none-before = λ j i e. before j i (subst (λ (x : Run). IsVerdict p x w) (take-append-le j run (l ∷ []) (omega arith)) e);
         }
       where
         before : (j : ℕ) → j < suc (length run) → IsVerdict p (take j run) w → ⊥

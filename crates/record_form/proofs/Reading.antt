@@ -56,16 +56,13 @@ as-case {reader} {s} {before} h = subst (ReadBy reader s before) (h .answer) h
 is-zero : (n : ℕ) → not (eqb n 0) ≡ false → n ≡ 0
 is-zero n e = eqb-true n 0 (not-false _ e)
 
-none : {A : Type 0} → ⊥ → A
-none z = absurd z
-
 -- What a record that is not broken keeps to, by its kind.
 pub unbroken : (kind action : ℕ) (other : Bool) → broken kind action other ≡ false
     → (kind ≤ 3) × (kind ≡ 3 → action ≡ 0) × (kind ≡ 3 → other ≡ false)
 unfolding broken
-unbroken zero action other e = (omega arith, (λ h. none (omega arith)), (λ h. none (omega arith)))
-unbroken (suc zero) action other e = (omega arith, (λ h. none (omega arith)), (λ h. none (omega arith)))
-unbroken (suc (suc zero)) action other e = (omega arith, (λ h. none (omega arith)), (λ h. none (omega arith)))
+unbroken zero action other e = (omega arith, (λ h. absurd (omega arith)), (λ h. absurd (omega arith)))
+unbroken (suc zero) action other e = (omega arith, (λ h. absurd (omega arith)), (λ h. absurd (omega arith)))
+unbroken (suc (suc zero)) action other e = (omega arith, (λ h. absurd (omega arith)), (λ h. absurd (omega arith)))
 unbroken (suc (suc (suc zero))) action other e =
     let p = or-split (not (eqb action 0)) other (sym (broken-end 3 action other refl) ∙ e) in
     (omega arith, (λ h. is-zero action (p .0)), (λ h. p .1))

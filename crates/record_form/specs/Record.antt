@@ -1,10 +1,11 @@
 -- Document 01, "Packed forms": the record, its reader and its writer.
-use Prim.Native.Nat.{ℕ, zero, suc, _+_, _-_, _<_}
+use Prim.Native.Nat.{ℕ, zero, suc, _+_, _-_}
 use mathlib.Core.Bool.{Bool, not, _&&_, _||_}
 use mathlib.Core.List.{List, _++_}
 use mathlib.Core.Path.{_≡_}
-use lib.ListN.{length, drop, getD}
+use lib.ListN.{length, drop}
 use lib.Dec.{ltb, eqb}
+pub use Rattle.laws.specs.Bytes.{Bytes}
 use Rattle.meaning.specs.Limits.{last-action, last-stamp}
 use Rattle.meaning.specs.Numbers.{given, first-of}
 use Rattle.meaning.specs.Calls.{unless-refused}
@@ -118,10 +119,6 @@ write-refusal kind action stamp before size =
     (first-of (given 3 (ltb last-action action))
     (first-of (given 4 (stamp-above stamp before))
     (first-of (given 5 (ltb stamp before)) (given 9 (ltb size record-size)))))
-
--- Each of s is a byte.
-abbrev pub Bytes : List ℕ → Type 0
-Bytes s = (i : ℕ) → getD s i 0 < 256
 
 -- "Record, 6 bytes: two bits of kind ..; 6 bits action; 40 bits of stamp, less the stamp before it"
 unfoldable pub record-form : ℕ → ℕ → ℕ → List ℕ

@@ -3,7 +3,7 @@ ghost use mathlib.Core.Path.{_≡_};
 ghost use Rattle.meaning.specs.Calls.{Call, mark-at};
 ghost use Rattle.meaning.specs.Calls;
 ghost use Rattle.cuts.specs.Steps.{line-of};
-ghost use Rattle.session_record.specs.Step.{answer-of, no-property, fresh-of, stepped-of};
+ghost use Rattle.session_record.specs.Step.{answer-of, fresh-of, stepped-of};
 use property::Property;
 use session_record::Session;
 use session_record::Stepped;
@@ -22,26 +22,13 @@ fn unmoved(s: Session, number: u64) -> Stepped
     }
 }
 
-fn no_property() -> Property
-    ensures { λ r. ⌜ r ≡ no-property ⌝ }
-{
-    Property {
-        n: 0,
-        output: [false; 32],
-        number: [0u8; 32],
-        allowed: 0,
-        lb: 0,
-        ub: 0,
-    }
-}
-
 // A fresh session.
 pub fn fresh(p: Property) -> Stepped
     ensures { λ r. ⌜ r ≡ fresh-of p ⌝ }
 {
     let number = property::refused(p);
     if number != 0 {
-        return unmoved(blank(no_property(), matcher::none()), number);
+        return unmoved(blank(property::none(), matcher::none()), number);
     }
     unmoved(blank(p, matcher::start()), 0)
 }

@@ -11,9 +11,11 @@ use Rattle.laws.specs.Filled.{Filled}
 use Rattle.laws.specs.Bits.{mask-to}
 use Rattle.laws.proofs.Filled.{getD-repeat}
 use Rattle.laws.proofs.Places.{padded-is, first-same, map-first, length-first}
+use Rattle.meaning.specs.Words.{action-number}
 use Rattle.meaning.specs.Matcher.{Lengths, at-start, none-of}
 use Rattle.meaning.specs.Step.{Held, Front}
 use Rattle.property.specs.declared.Property.{Property}
+use Rattle.property.specs.Zeros.{zeros}
 use Rattle.matcher.specs.declared.Cut.{Cut}
 use Rattle.matcher.specs.Sets.{cut-of}
 use Rattle.matcher.proofs.Words.{cut-back}
@@ -21,9 +23,9 @@ use Rattle.rows.specs.declared.Span.{Span}
 use Rattle.rows.specs.Rows.{spanning, none, Room}
 use Rattle.clock.specs.declared.Clock.{Clock}
 use Rattle.cuts.specs.Steps.{front-none, fresh-by}
-use Rattle.cuts.specs.Fronts.{cut-at, set-at, held-at, front-of, number-of, sets-of}
+use Rattle.cuts.specs.Fronts.{cut-at, set-at, held-at, front-of, sets-of}
 use Rattle.session_record.specs.Record.{record-of}
-use Rattle.session_record.specs.Step.{no-property, no-session}
+use Rattle.session_record.specs.Step.{no-session}
 use Rattle.session_record.specs.Lent.{Memory, held-in, record-in, Ready, of-arrays, packed, packed-of, blank}
 
 -- Four rows, each with its places.
@@ -68,7 +70,7 @@ module _ (m : Memory) (ready : Ready m) where
       (λ i.
       of-arrays (m .property)
       (padded 65 0 (sym (map-first (λ (x : Held Lengths). x .line .stamp) (held-at rows s 0) (s .count)) i))
-      (padded 65 0 (sym (map-first (λ (x : Held Lengths). number-of (x .line .action)) (held-at rows s 0) (s .count)) i))
+      (padded 65 0 (sym (map-first (λ (x : Held Lengths). action-number (x .line .action)) (held-at rows s 0) (s .count)) i))
       (padded 65 0 (words (λ (c : Cut). c .mask) i))
       (padded 65 0 (words (λ (c : Cut). c .armed) i))
       (record { span = spanning (sym (length-first (held-at rows s 0) (s .count)) i); clock = m .status .clock }))
@@ -94,6 +96,6 @@ pub blank-fresh : (p : Property) → blank p (cut-of at-start) ≡ record-of p (
 unfolding first cut-of mask-to
 blank-fresh p = refl
 
-pub blank-zeros : blank no-property (cut-of none-of) ≡ no-session
+pub blank-zeros : blank zeros (cut-of none-of) ≡ no-session
 unfolding first cut-of mask-to
 blank-zeros = refl

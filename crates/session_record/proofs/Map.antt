@@ -6,7 +6,7 @@ use native.Mathlib.Omega.{arith}
 use lib.ListN.{length, getD, length-map}
 use Rattle.laws.specs.Places.{first}
 use Rattle.laws.proofs.Places.{getD-first, first-same, first-whole, map-at}
-use Rattle.meaning.specs.Words.{Action, Line}
+use Rattle.meaning.specs.Words.{Action, Line, action-number}
 use Rattle.meaning.specs.Matcher.{Lengths, none-of}
 use Rattle.meaning.specs.Numbers.{property-refusal}
 use Rattle.meaning.specs.Step.{Held, Front}
@@ -22,7 +22,7 @@ use Rattle.rows.specs.declared.Span.{Span}
 use Rattle.rows.specs.Rows.{spanning, word}
 use Rattle.rows.proofs.Rows.{word-spanning}
 use Rattle.held.specs.Held.{line-at}
-use Rattle.cuts.specs.Fronts.{cut-at, front-of, number-of, sets-of, stored-held, stored-acts, stored-row}
+use Rattle.cuts.specs.Fronts.{cut-at, front-of, sets-of, stored-held, stored-acts, stored-row}
 use Rattle.session_record.proofs.Each.{all-at}
 
 -- The rows of the record of a front.
@@ -42,10 +42,10 @@ module _ (p : Property) (good : property-refusal (meant p) ≡ 0) (f : Front Len
       word-spanning (stored-rows f) (length (f .held)) 0 i (omega arith)
       ∙ getD-first _ 65 i 0 (omega arith) ∙ map-at (λ (x : Held Lengths). x .line .stamp) (f .held) i (nothing none-of) 0 h
 
-  act-stored : (i : ℕ) → i < length (f .held) → word (stored-rows f) own 1 i ≡ number-of (nth i .line .action)
+  act-stored : (i : ℕ) → i < length (f .held) → word (stored-rows f) own 1 i ≡ action-number (nth i .line .action)
   act-stored i h =
       word-spanning (stored-rows f) (length (f .held)) 1 i (omega arith)
-      ∙ getD-first _ 65 i 0 (omega arith) ∙ map-at (λ (x : Held Lengths). number-of (x .line .action)) (f .held) i (nothing none-of) 0 h
+      ∙ getD-first _ 65 i 0 (omega arith) ∙ map-at (λ (x : Held Lengths). action-number (x .line .action)) (f .held) i (nothing none-of) 0 h
 
   -- the set of cut i
   set : ℕ → Lengths
@@ -80,7 +80,7 @@ module _ (p : Property) (good : property-refusal (meant p) ≡ 0) (f : Front Len
   set-stored : (i : ℕ) → i ≤ length (f .held) → set-of (cut-at (stored-rows f) own 0 i) ≡ set i
   set-stored i h = ap set-of (cut-stored i h) ∙ set-back p good (set i) (set-short i h)
 
-  line-back : (a : Action) (t : ℕ) → IsIn a → _≡_ {A = Line} (record { action = Action.input (number-of a); stamp = t }) (record { action = a; stamp = t })
+  line-back : (a : Action) (t : ℕ) → IsIn a → _≡_ {A = Line} (record { action = Action.input (action-number a); stamp = t }) (record { action = a; stamp = t })
   line-back (Action.input k) t h = refl
   line-back (Action.output k) t h = absurd h
 

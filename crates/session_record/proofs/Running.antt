@@ -10,13 +10,14 @@ use Rattle.meaning.specs.Calls.{Call}
 use Rattle.meaning.specs.Calls
 use Rattle.meaning.specs.Step.{grown}
 use Rattle.property.specs.Meant.{meant}
+use Rattle.property.specs.Zeros.{zeros}
 use Rattle.property.specs.declared.Property.{Property}
 use Rattle.property.proofs.Refusal.{length-refused}
 use Rattle.cuts.specs.Steps.{fresh-by, answer-by}
 use Rattle.session_record.specs.declared.Session.{Session}
 use Rattle.session_record.specs.declared.Stepped.{Stepped}
 use Rattle.session_record.specs.Record.{record-of, out-of-range}
-use Rattle.session_record.specs.Step.{answer-of, no-property, no-session, fresh-of, stepped-of, stepped-through}
+use Rattle.session_record.specs.Step.{answer-of, no-session, fresh-of, stepped-of, stepped-through}
 use Rattle.session_record.proofs.Range.{crowded, fallen, held-blind, late, too-long, range-tests}
 use Rattle.session_record.proofs.Steps.{named-refused, fresh-refused, fresh-taken}
 use Rattle.session_record.proofs.Grown.{step-over, grown-record, grown-step}
@@ -41,7 +42,7 @@ module _ (p : Property) (good : property-refusal (meant p) ≡ 0) where
 pub zeros-named : out-of-range no-session ≡ true
 zeros-named =
     range-tests no-session true (crowded no-session) (fallen no-session) (held-blind no-session) (late no-session) (too-long no-session)
-    (ap not (ne-eqb (property-refusal (meant no-property)) 0 (λ e. none (sym (length-refused no-property refl) ∙ e)))) refl refl refl refl refl
+    (ap not (ne-eqb (property-refusal (meant zeros)) 0 (λ e. none (sym (length-refused zeros refl) ∙ e)))) refl refl refl refl refl
   where
     none : _≡_ {A = ℕ} 1 0 → ⊥
     none e = omega arith
@@ -50,9 +51,9 @@ zeros-named =
 pub refused-fresh-then : (p : Property) → (property-refusal (meant p) ≡ 0 → ⊥) → (k : Call)
     → _≡_ {A = Stepped} (stepped-of (fresh-of p .session) k) (record { answer = answer-of (Calls.refused 10); session = fresh-of p .session })
 refused-fresh-then p bad k =
-    ap (λ (s : Session). stepped-of s k) zeros
+    ap (λ (s : Session). stepped-of s k) given-back
     ∙ named-refused no-session k zeros-named
-    ∙ ap (λ (s : Session). record { answer = answer-of (Calls.refused 10); session = s }) (sym zeros)
+    ∙ ap (λ (s : Session). record { answer = answer-of (Calls.refused 10); session = s }) (sym given-back)
   where
-    zeros : fresh-of p .session ≡ no-session
-    zeros = ap (λ (r : Stepped). r .session) (fresh-refused p (property-refusal (meant p)) refl bad)
+    given-back : fresh-of p .session ≡ no-session
+    given-back = ap (λ (r : Stepped). r .session) (fresh-refused p (property-refusal (meant p)) refl bad)

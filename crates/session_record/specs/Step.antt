@@ -1,13 +1,12 @@
 -- One step of the session record is the meaning's step over cuts, read through the map.
 use Prim.Native.Nat.{ℕ}
-use mathlib.Core.Bool.{false}
 use mathlib.Core.List.{List, [], _∷_}
-use lib.ListN.{replicate}
 use Rattle.meaning.specs.Numbers.{given, first-of, property-refusal}
 use Rattle.meaning.specs.Node.{Verdict, verdict-number}
 use Rattle.meaning.specs.Calls.{Call, fresh-clock, unless-refused}
 use Rattle.meaning.specs.Calls
 use Rattle.property.specs.Meant.{meant}
+use Rattle.property.specs.Zeros.{zeros}
 use Rattle.property.specs.declared.Property.{Property}
 use Rattle.cuts.specs.Steps.{front-none, fresh-by, verdict-by, refusal-by, taken-by, told-by, says}
 use Rattle.session_record.specs.declared.Session.{Session}
@@ -31,12 +30,9 @@ stepped-of s c =
     (record { answer = answer-of (told-by (s .property) (cuts-of s) c); session = record-of (s .property) (taken-by (s .property) (cuts-of s) c) })
     (record { answer = answer-of (Calls.refused (refusal-of s c)); session = s })
 
--- A property and a session of zeros.
-abbrev pub no-property : Property
-no-property = record { n = 0; output = replicate 32 false; number = replicate 32 0; allowed = 0; lb = 0; ub = 0 }
-
+-- A session of zeros.
 abbrev pub no-session : Session
-no-session = record-of no-property (record { clock = fresh-clock; front = front-none no-property })
+no-session = record-of zeros (record { clock = fresh-clock; front = front-none zeros })
 
 -- What a fresh call gives back: taken, "an empty run, verdict 0 and latest stamp 0", the property as it was given; refused, the
 -- number of the property's refusal and a session of zeros.

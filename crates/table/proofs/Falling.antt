@@ -2,31 +2,18 @@
 -- entry is the entry of the shorter length wherever the sequence does not go on.
 use Prim.Native.Nat.{ℕ, zero, suc, _+_, _-_, _≤_, _<_}
 use mathlib.Core.Path.{_≡_, refl, sym, ap, ap₂, _∙_, subst}
-use mathlib.Core.Bool.{Bool, true, false, cond, _&&_, true≢false, and-true, and-false}
+use mathlib.Core.Bool.{Bool, true, false, cond, _&&_, and-true, and-false}
 use mathlib.Core.List.{List}
 use native.Mathlib.Omega.{arith}
 use lib.ListN.{length, getD, set}
 use lib.Seq.{getD-set-same, getD-set-other}
 use lib.Dec.{eqb, ltb}
-use borrow.Author.Tests.{lt-ltb, eq-eqb, eqb-true, eqb-false}
+use borrow.Author.Tests.{lt-ltb, eqb-true, eqb-false}
 use Rattle.meaning.specs.Words.{Action}
 use Rattle.meaning.specs.Matcher.{same, ends, goes-on, fall-back}
+use Rattle.meaning.proofs.Tests.{both, same-eq, same-refl}
 use Rattle.table.specs.Table.{Shorter}
 use Rattle.table.proofs.Recursion.{fall-back-none, fall-back-down}
-
-same-refl : (a : Action) → same a a ≡ true
-same-refl (Action.input k) = eq-eqb k k refl
-same-refl (Action.output k) = eq-eqb k k refl
-
-same-is : (a b : Action) → same a b ≡ true → a ≡ b
-same-is (Action.input j) (Action.input k) e = ap Action.input (eqb-true j k e)
-same-is (Action.output j) (Action.output k) e = ap Action.output (eqb-true j k e)
-same-is (Action.input j) (Action.output k) e = absurd (true≢false (sym e))
-same-is (Action.output j) (Action.input k) e = absurd (true≢false (sym e))
-
-both : (a b : Bool) → a && b ≡ true → (a ≡ true) × (b ≡ true)
-both true b e = (refl, e)
-both false b e = absurd (true≢false (sym e))
 
 module _ (s : ℕ → Action) where
   ends-self : (k : ℕ) → ends s k k ≡ true
@@ -43,7 +30,7 @@ module _ (s : ℕ → Action) where
   ends-through (suc j) (suc f) (suc k) h l e =
       let q = both (same (s f) (s k)) (ends s f k) e in
       ap₂ (λ (a b : Bool). a && b)
-      (ap (same (s j)) (sym (same-is (s f) (s k) (q .0))))
+      (ap (same (s j)) (sym (same-eq (s f) (s k) (q .0))))
       (ends-through j f k (omega arith) (omega arith) (q .1))
 
   module _ (n : ℕ) where

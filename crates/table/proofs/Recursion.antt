@@ -1,7 +1,7 @@
 -- Laws of the meaning's matcher: how its questions go on at a smaller length, and what they do not look at.
 use Prim.Native.Nat.{ℕ, zero, suc, _+_, _-_, _≤_, _<_}
 use mathlib.Core.Path.{_≡_, refl, sym, ap, ap₂, _∙_}
-use mathlib.Core.Bool.{Bool, true, false, cond, not, _&&_, false≢true}
+use mathlib.Core.Bool.{Bool, true, false, cond, not, _&&_}
 use native.Mathlib.Omega.{arith}
 use native.Mathlib.Numerals.{unary-clauses, add-one}
 use lib.Dec.{ltb}
@@ -55,27 +55,6 @@ fall-back-down s n k zero a e z = absurd (z refl)
 fall-back-down s n k (suc j) a e z =
     ap (fall-back s n k a) (let q : suc j - 1 ≡ j = omega arith in q)
     ∙ ap (λ (b : Bool). cond b (suc (suc j)) (fall-back s n k a j)) (sym e)
-
--- What goes on is within the sequence.
-goes-on-within : (s : ℕ → Action) (n k j : ℕ) (a : Action) → goes-on s n k j a ≡ true → j < n
-goes-on-within s n k j a e = go (ltb j n) (ltb-true j n) e
-  where
-    go : (b : Bool) → (b ≡ true → j < n) → b && same (s j) a && ends s j k ≡ true → j < n
-    go true t q = t refl
-    go false t q = absurd (false≢true q)
-
-pub fall-back-le : (s : ℕ → Action) (n k j : ℕ) (a : Action) → fall-back s n k a j ≤ n
-unfolding fall-back
-fall-back-le s n k zero a = go (goes-on s n k zero a) (goes-on-within s n k zero a)
-  where
-    go : (b : Bool) → (b ≡ true → zero < n) → cond b 1 0 ≤ n
-    go true t = let h : zero < n = t refl in omega arith
-    go false t = omega arith
-fall-back-le s n k (suc j) a = go (goes-on s n k (suc j) a) (goes-on-within s n k (suc j) a) (fall-back-le s n k j a)
-  where
-    go : (b : Bool) → (b ≡ true → suc j < n) → fall-back s n k a j ≤ n → cond b (suc (suc j)) (fall-back s n k a j) ≤ n
-    go true t l = let h : suc j < n = t refl in omega arith
-    go false t l = l
 
 -- Only the places of the sequence count.
 module _ (s t : ℕ → Action) (n : ℕ) (agree : (i : ℕ) → i < n → s i ≡ t i) where

@@ -18,7 +18,7 @@ use Rattle.record_form.proofs.Parts.{three-form, length-form-three, form-kind, 
 use Rattle.fields.proofs.Laws.{field-lt}
 use Rattle.record_form.proofs.Reading.{unbroken}
 use Rattle.record_form.proofs.RoundTrip.{write-none}
-use Rattle.trace_form.proofs.Trace.{Bytes-drop}
+use Rattle.laws.proofs.Bytes.{Bytes-drop}
 use Rattle.tap_form.specs.Tap.{counter-at, since, tap-stamp, tap-broken, tap-action, tap-fields-refusal, tap-answer, tap-form}
 use Rattle.tap_form.specs.Card.{card-action, CardNumber, card-form, CardCanSay, TapTakenAs}
 use Rattle.tap_form.proofs.Wrapped.{counter-lt, since-back, since-lt, since-true}

@@ -1,21 +1,19 @@
 -- Traces: what was written reads back as it was given, and whatever is taken as a trace is exactly what is written for it,
 -- so that only one packing of each trace is taken.
-use Prim.Native.Nat.{ℕ, _+_, _-_, _<_}
+use Prim.Native.Nat.{ℕ, _-_}
 use mathlib.Core.Path.{_≡_, refl, sym, _∙_, ap, ap₂, subst}
 use mathlib.Core.List.{List, [], _∷_, _++_, append-nil}
 use native.Mathlib.Omega.{arith}
 use native.Mathlib.Nat.{sub-self}
 use lib.ListN.{drop, take-append-drop}
 use lib.Dec.{lit≤}
-use lib.Seq.{drop-at, getD-drop}
+use lib.Seq.{drop-at}
+pub use Rattle.laws.proofs.Bytes.{Bytes-drop}
 use Rattle.record_form.specs.Record
 use Rattle.record_form.specs.Record.{Reader, RecordAnswer, taken, record-answer, Bytes, record-form}
 use Rattle.trace_form.specs.Trace.{Entry, kind-of, action-of, stamp-of, trace-form, CanBeWritten, TakenBy, TakenAs}
 use Rattle.record_form.proofs.Writing.{length-record-form, is-writable}
 use Rattle.record_form.proofs.RoundTrip.{form-is-read, read-is-writable, read-is-form, write-none, in-room}
-
-pub Bytes-drop : (n : ℕ) (s : List ℕ) → Bytes s → Bytes (drop n s)
-Bytes-drop n s b i = subst (λ (x : ℕ). x < 256) (sym (getD-drop n s i 0)) (b (n + i))
 
 -- Whatever is taken as a trace is exactly what is written for it.
 pub trace-writes-back : (s : List ℕ) (before : ℕ) (trace : List Entry) → Bytes s → TakenAs s before trace

@@ -14,7 +14,7 @@ use Rattle.trace_form.specs.ReadAs.{ReadAs, read-as}
 use Rattle.trace_form.proofs.ReadAs.{short-read}
 use Rattle.session_record.specs.declared.Session.{Session}
 use Rattle.session_record.specs.Record.{latest-of, out-of-range}
-use Rattle.session_record.specs.Step.{stepped-of, stepped-through}
+use Rattle.session_record.specs.Step.{stepped-of}
 use Rattle.walk.specs.declared.Stop.{Stop}
 use Rattle.walk.specs.declared.Stop.the-variants.{Budget, End, Refused}
 use Rattle.walk.specs.Walk.{Walk, One, one-call, one-read, one-of, stopped, one-more, walked-by, walk-on, walk-answer, budget-of, walk-of, rest-start}
@@ -31,13 +31,8 @@ pub data Steps : Session → List Call → Session → Type 0 where
   none : {s : Session} → Steps s [] s
   more : {s after last : Session} {c : Call} {cs : List Call} → IsStep s c after → Steps after cs last → Steps s (c ∷ cs) last
 
-pub steps-through : {s last : Session} {cs : List Call} → Steps s cs last → last ≡ stepped-through s cs
-unfolding stepped-through
-steps-through none = refl
-steps-through (more {cs = cs} h r) = steps-through r ∙ ap (λ (x : Session). stepped-through x cs) (h .steps)
-
 -- a record that is taken is a single step
-abbrev StepOf : Session → One → Type 0
+abbrev pub StepOf : Session → One → Type 0
 StepOf s One.ended = Unit {0}
 StepOf s (One.refused n) = Unit {0}
 StepOf s (One.took c after) = IsStep s c after

@@ -8,7 +8,6 @@ use lib.Dec.{eqb, ltb}
 use borrow.Author.Tests.{eq-eqb, ne-eqb, lt-ltb, le-ltb, ltb-true, ltb-false}
 use Rattle.laws.proofs.Tests.{neither}
 use Rattle.meaning.specs.Limits.{last-stamp}
-use Rattle.meaning.specs.Words
 use Rattle.meaning.specs.Numbers.{given, first-of, property-refusal}
 use Rattle.meaning.specs.Calls.{fresh}
 use Rattle.meaning.proofs.Tests.{or-left, or-right}

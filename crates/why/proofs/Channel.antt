@@ -1,5 +1,5 @@
 -- The two channels of what is left of a run, by places.
-use Prim.Native.Nat.{ℕ, zero, suc, _-_}
+use Prim.Native.Nat.{ℕ, zero, suc}
 use mathlib.Core.Path.{_≡_, refl, sym, ap, ap₂, _∙_, subst}
 use mathlib.Core.Logic.{_↔_}
 use mathlib.Core.Bool.{Bool, true, false, cond, not, _&&_}
@@ -16,8 +16,8 @@ use Rattle.meaning.proofs.Lengths.{lengths-reading}
 use Rattle.property.specs.Meant.{meant}
 use Rattle.property.specs.declared.Property.{Property}
 use Rattle.matcher.specs.declared.Cut.{Cut}
-use Rattle.matcher.specs.Sets.{set-of, cut-of, Fits}
-use Rattle.matcher.proofs.Words.{set-back, short-fits, moved-short}
+use Rattle.matcher.specs.Sets.{set-of, cut-of}
+use Rattle.matcher.proofs.Words.{set-back, moved-short}
 use Rattle.cuts.specs.Steps.{line-of}
 use Rattle.judged_rest.specs.declared.Reached.{Reached}
 use Rattle.judged_rest.specs.Lent.{Lines, is-output, line-in}
@@ -71,9 +71,6 @@ module _ (p : Property) (good : property-refusal (meant p) ≡ 0) where
   -- a set of one state
   abbrev pub Only : Cut → State → Type 0
   Only c q = (s : State) → lengths-reading (meant p) good .laws .Member (set-of c) s ↔ (s ≡ q)
-
-  pub moved-fits : (c : Cut) (l : Line) → Fits p (cut-of (moved (meant p) (set-of c) l))
-  moved-fits c l = short-fits p good (moved (meant p) (set-of c) l) (moved-short (meant p) (set-of c) l)
 
   pub only-next : (c : Cut) (q : State) → Only c q → (l m : Line) → l .action ≡ m .action → Only (cut-of (moved (meant p) (set-of c) l)) (state-next (meant p) q m)
   only-next c q one l m e s =

@@ -6,7 +6,7 @@ use native.Mathlib.Omega.{arith}
 use Rattle.meaning.specs.Words.{Line, Run, StampsFrom}
 use Rattle.meaning.specs.Words
 use Rattle.meaning.specs.Node.{Verdict, verdict-number}
-use Rattle.meaning.specs.Numbers.{given, first-of, property-refusal}
+use Rattle.meaning.specs.Numbers.{given, property-refusal}
 use Rattle.meaning.specs.Calls.{fresh}
 use Rattle.meaning.proofs.Refusals.{first-of-none}
 use Rattle.reasons.specs.Reasons.{Earliest, lines-refusal, line-numbers}
@@ -18,16 +18,13 @@ use Rattle.property.specs.declared.Property.{Property}
 use Rattle.judged_rest.specs.declared.Reason.{Reason}
 use Rattle.judged_rest.specs.Lent.{Lines, count, run-of}
 use Rattle.first_order.specs.Search.{Pair, pair}
-use Rattle.why.specs.Why.{uneven, size-refusal, why-refusal, over, Shows, ShowsBy, ReasonBy, IsReason}
+use Rattle.why.specs.Why.{uneven, why-refusal, over, Shows, ShowsBy, ReasonBy, IsReason}
 use Rattle.why.proofs.Judgement.{Sofar, all-of, stopped, sofar}
 
 -- the run of a call that is taken: stamps never fall
 pub taken-parts : (p : Property) (ls : Lines) (l l2 : Pair) → why-refusal p ls l l2 ≡ 0 → (property-refusal (meant p) ≡ 0) × StampsFrom 0 (run-of ls)
 taken-parts p ls l l2 e = (good, go (sofar p good ls (count ls)))
   where
-    parts : (property-refusal (meant p) ≡ 0) × (first-of (given 7 (uneven ls)) (first-of (lines-refusal (meant p) fresh (run-of ls)) (size-refusal (count ls) l l2)) ≡ 0)
-    parts = first-of-none (property-refusal (meant p)) e
-
     good : property-refusal (meant p) ≡ 0
     good = first-of-none (property-refusal (meant p)) e .0
 

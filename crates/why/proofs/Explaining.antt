@@ -11,7 +11,6 @@ use borrow.Author.Tests.{lt-ltb, le-ltb, le-leb}
 use Rattle.laws.specs.Places.{first}
 use Rattle.laws.proofs.Places.{first-snoc}
 use Rattle.meaning.specs.Words.{Line, StampsFrom}
-use Rattle.meaning.specs.Words
 use Rattle.meaning.specs.Node.{ins, outs, Explanation, Breaks, Verdict, verdict-number, IsVerdict}
 use Rattle.meaning.specs.Numbers.{property-refusal}
 use Rattle.meaning.specs.Matcher.{Lengths, State, is-broken, at-start}

@@ -10,21 +10,21 @@ use borrow.Author.Tests.{eqb-true, eqb-false, le-leb}
 use Rattle.laws.specs.Places.{first}
 use Rattle.laws.proofs.Places.{length-first, first-snoc}
 use Rattle.meaning.specs.Words.{Line, Run}
-use Rattle.meaning.specs.Words
 use Rattle.meaning.specs.Node.{Breaks, Verdict, verdict-number, IsVerdict}
 use Rattle.meaning.specs.Numbers.{first-of, action-above, property-refusal}
 use Rattle.meaning.specs.Calls.{Call, Clock, fresh-clock, ticked, Watch, fresh, refusal, taken, stamp-refusal}
 use Rattle.meaning.specs.Calls
 use Rattle.meaning.specs.Matcher.{Lengths, at-start}
-use Rattle.meaning.specs.Step.{Front, Cuts, lengths, last-set, front-with, fresh-front, front-verdict, told}
+use Rattle.meaning.specs.Step.{Front, Cuts, lengths, last-set, front-with, fresh-front, front-verdict}
 use Rattle.meaning.proofs.Refusals.{first-of-none, none-first, unless-taken, unless-kept}
+use Rattle.meaning.proofs.Tests.{same-number}
 use Rattle.meaning.proofs.Sets.{Reading}
 use Rattle.meaning.proofs.Clocks.{open-watch, open-cuts}
 use Rattle.meaning.proofs.Lengths.{lengths-reading}
 use Rattle.meaning.proofs.Exact.{Fits, fresh-fits, front-fits, front-verdict-exact}
 use Rattle.meaning.proofs.Calls.{Agrees, fresh-agrees, refusal-agrees, taken-agrees, not-refused-stamp}
 use Rattle.reasons.specs.Reasons.{ReachedAt, lines-refusal}
-use Rattle.reasons.proofs.Reached.{reached-empty, reached-same, reached-new, same-number, one-verdict}
+use Rattle.reasons.proofs.Reached.{reached-empty, reached-same, reached-new, one-verdict}
 use Rattle.property.specs.Meant.{meant}
 use Rattle.property.specs.declared.Property.{Property}
 use Rattle.matcher.proofs.Words.{set-back, start-short}

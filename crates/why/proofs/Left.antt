@@ -1,5 +1,5 @@
 -- Those of the first n places of which a test holds, in their order: which is first, and what is left behind it.
-use Prim.Native.Nat.{ℕ, zero, suc, _+_, _-_, _≤_, _<_}
+use Prim.Native.Nat.{ℕ, zero, suc, _+_, _≤_, _<_}
 use mathlib.Core.Path.{_≡_, refl, sym, ap, ap₂, _∙_}
 use mathlib.Core.Bool.{Bool, true, false, cond, not, true≢false, _&&_, and-true, and-false}
 use mathlib.Core.List.{List, [], _∷_, _++_}
@@ -15,10 +15,6 @@ left f g (suc k) = left f g k ++ cond (f k) (g k ∷ []) []
 pub left-next : {A : Type 0} (f : ℕ → Bool) (g : ℕ → A) (k : ℕ) → left f g (suc k) ≡ left f g k ++ cond (f k) (g k ∷ []) []
 unfolding left
 left-next f g k = refl
-
-pub left-zero : {A : Type 0} (f : ℕ → Bool) (g : ℕ → A) → left f g 0 ≡ []
-unfolding left
-left-zero f g = refl
 
 module _ {A : Type 0} (g : ℕ → A) where
   pub left-same : (f f′ : ℕ → Bool) (n : ℕ) → ((i : ℕ) → i < n → f i ≡ f′ i) → left f g n ≡ left f′ g n

@@ -1,5 +1,5 @@
 -- The order that is written, line by line, is found as the search of the first order says; and its numbers are its lines'.
-use Prim.Native.Nat.{ℕ, _-_, _≤_}
+use Prim.Native.Nat.{ℕ, _≤_}
 use mathlib.Core.Path.{_≡_, sym, _∙_, subst}
 use mathlib.Core.Logic.{_↔_}
 use mathlib.Core.Bool.{Bool, true, false, true≢false}
@@ -7,7 +7,6 @@ use mathlib.Core.List.{List}
 use borrow.Author.Tests.{leb-true, le-leb}
 use Rattle.laws.specs.Places.{first}
 use Rattle.meaning.specs.Words.{Line, StampsFrom}
-use Rattle.meaning.specs.Words
 use Rattle.meaning.specs.Node.{ins, outs, Some, Verdict, verdict-number, VerdictFor}
 use Rattle.meaning.specs.Numbers.{property-refusal}
 use Rattle.meaning.specs.Matcher.{State, is-broken}
@@ -19,7 +18,6 @@ use Rattle.meaning.proofs.Facts.{explains-pairs, pairs-explain}
 use Rattle.meaning.proofs.Sets.{Matcher, along}
 use Rattle.meaning.proofs.Matching.{state-matcher}
 use Rattle.reasons.proofs.Search.{Reach}
-use Rattle.reasons.proofs.Search
 use Rattle.reasons.proofs.Verdicts.{some-breaks, some-spares}
 use Rattle.property.specs.Meant.{meant}
 use Rattle.property.specs.declared.Property.{Property}

@@ -12,7 +12,6 @@ use Rattle.property.specs.Meant.{meant}
 use Rattle.matcher.specs.declared.Cut.{Cut}
 use Rattle.matcher.specs.Sets.{set-of, Fits}
 use Rattle.cuts.specs.Steps.{line-of}
-use Rattle.cuts.specs.Fronts.{cut-at}
 use Rattle.cuts.proofs.Sweeps.{line-kept, Sweeping, new-set, sweeping-none, sweeping-more, new-set-next, new-set-none, rows-swept}
 use borrow.Author.Needs.{needs}
 use Rattle.cuts.proofs.sweep.Statement.{statement}

@@ -14,7 +14,6 @@ use Rattle.cuts.proofs.Lines.{front-left, usable-left, holds-appended, 
 use borrow.Author.Needs.{needs}
 use Rattle.cuts.proofs.take_line.Statement.{statement}
 use Rattle.cuts.proofs.take_line.Tie as tie
-use Rattle.held.proofs.append.Reads as append-reads′
 
 -- the entry, what closing has left, and from the end back to there
 abbrev entry : tie.After-dropped → tie.Start

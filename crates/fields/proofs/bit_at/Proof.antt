@@ -8,7 +8,7 @@ use Rattle.fields.proofs.bit_at.Tie as tie
 
 returns : tie.Need-returns
 unfolding bit digit
-returns c = ap (λ (x : ℕ). x / 2 ^ (7 - c .before .before .before .args .i % 8) % 2) (c .wide .ensures)
+returns c = ap (λ (x : ℕ). x / 2 ^ (7 - c .before .before .before .args .i % 8) % 2) (c .wide .ensures .0)
 
 pub bit-at-spec : {M : Type 1} → statement M
 bit-at-spec =

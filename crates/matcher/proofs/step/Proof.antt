@@ -1,6 +1,6 @@
 -- `matcher::step` meets its contract. The loop: what is left of the set, stepped, and what was gathered are together the step of the whole set.
 use borrow.Author.Needs.{needs}
-use Prim.Native.Nat.{ℕ, suc, _+_, _-_, _^_, _≤_, _<_}
+use Prim.Native.Nat.{ℕ, suc, _+_, _^_, _≤_, _<_}
 use mathlib.Core.Path.{_≡_, sym, ap, _∙_}
 use mathlib.Core.Bool.{Bool, _||_}
 use native.Mathlib.Omega.{arith}

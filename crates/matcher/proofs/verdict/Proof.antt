@@ -1,7 +1,7 @@
 -- `matcher::verdict` meets its contract: by whether broken and some length, armed or not, are in the set.
 use Prim.Native.Nat.{ℕ, _/_, _%_, _≤_, _<_}
 use mathlib.Core.Path.{_≡_, refl, sym, ap, ap₂, _∙_}
-use mathlib.Core.Bool.{Bool, true, false, not, _||_}
+use mathlib.Core.Bool.{Bool, true, false, not, _||_, or-true}
 use native.Mathlib.Omega.{arith}
 use lib.Dec.{eqb}
 use borrow.Author.Tests.{lt-ltb, le-ltb}
@@ -32,10 +32,6 @@ there m h = sym (lt-ltb 0 m h) ∙ some-test m
 not-there : (m : ℕ) → m ≤ 0 → false ≡ not (eqb m 0)
 not-there m h = sym (le-ltb 0 m h) ∙ some-test m
 
-or-there : (a : Bool) → a || true ≡ true
-or-there true = refl
-or-there false = refl
-
 returns : tie.Need-returns
 returns c =
     let cut = c .before .before .args .cut in
@@ -55,7 +51,7 @@ returns-3 c =
     let cut = start b .args .cut in
     λ p h.
     verdict-read p cut h true true (odd (cut .armed) (b .if1 .left))
-    (sym (or-there (not (eqb (cut .mask) 0))) ∙ ap (λ (b : Bool). not (eqb (cut .mask) 0) || b) (there (cut .armed / 2) (c .if3 .taken)))
+    (sym (or-true (not (eqb (cut .mask) 0))) ∙ ap (λ (b : Bool). not (eqb (cut .mask) 0) || b) (there (cut .armed / 2) (c .if3 .taken)))
 
 returns-4 : tie.Need-returns-4
 returns-4 c =

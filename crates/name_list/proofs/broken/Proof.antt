@@ -46,26 +46,26 @@ returns-2 c =
     or-next (le-ltb 8192 (length (L (c .before))) (c .before .before .before .before .before .if1 .left))
     (broken-here (l .inv .1 .0) (l .least) (drop (l .i) (L (c .before))) (some-left (L (c .before)) (l .i) (c .before .before .before .loop-test .taken)) (sym (checked (c .before)) ∙ c .if2 .taken) ∙ l .inv .1 .2)
 
-shared-slice-read-number-2 : tie.Need-shared-slice-read-number-2 Inv-loop μ-loop
-shared-slice-read-number-2 c = omega (arith, on (c .before .before .before) .fits)
+shared-slice-read-wide-2 : tie.Need-shared-slice-read-wide-2 Inv-loop μ-loop
+shared-slice-read-wide-2 c = omega (arith, on (c .before .before .before) .fits)
 
 add-i-2 : tie.Need-add-i-2 Inv-loop μ-loop
-add-i-2 c = record { fits = omega (arith, on (c .before .before .before .before) .fits, c .number2 .ensures .0) }
+add-i-2 c = record { fits = omega (arith, on (c .before .before .before .before) .fits, c .wide2 .ensures .0) }
 
 loop-less : tie.Need-loop-less Inv-loop μ-loop
-loop-less c = omega (arith, on (c .before .before .before .before) .fits, c .number2 .ensures .0)
+loop-less c = omega (arith, on (c .before .before .before .before) .fits, c .wide2 .ensures .0)
 
 loop-again : tie.Need-loop-again Inv-loop μ-loop
 loop-again c =
     let o = on (c .before .before .before .before) in
     let list = L (c .before .before .before .before .before) in
     let i = c .before .before .before .before .before .before .before .before .loop .i in
-    let up : c .before .before .number .result + 1 ≡ suc (getD list i 0) = omega (arith, c .before .before .number .ensures .0) in (
-      omega (arith, o .fits, c .number2 .ensures .0),
+    let up : c .before .before .wide .result + 1 ≡ suc (getD list i 0) = omega (arith, c .before .before .wide .ensures .0) in (
+      omega (arith, o .fits, c .wide2 .ensures .0),
       (
         o .less,
-        omega (arith, o .enough, c .number2 .ensures .0),
-        ap₂ (λ (a b : ℕ). entries-broken (o .less) a (drop (i + (2 + b)) list)) up (c .number2 .ensures .0)
+        omega (arith, o .enough, c .wide2 .ensures .0),
+        ap₂ (λ (a b : ℕ). entries-broken (o .less) a (drop (i + (2 + b)) list)) up (c .wide2 .ensures .0)
             ∙ o .same ∙ c .before .before .before .before .before .before .before .before .loop .inv .1 .2,
       ),
     )
@@ -95,7 +95,7 @@ broken-spec =
     (λ c κs. search needs)
     (λ c. search needs)
     (λ c. search needs)
-    shared-slice-read-number-2
+    shared-slice-read-wide-2
     (λ c κs. search needs)
     (λ c. search needs)
     add-i-2

@@ -15,7 +15,7 @@ returns : tie.Need-returns
 returns c = let s = now (c .before .before .args .s) in sym (lt-ltb (length s) (entry-size s) (omega arith))
 
 returns-2 : tie.Need-returns-2
-returns-2 c = ap (λ (n : ℕ). ltb (length (now (c .before .before .before .before .args .s))) (2 + n)) (c .number .ensures .0)
+returns-2 c = ap (λ (n : ℕ). ltb (length (now (c .before .before .before .before .args .s))) (2 + n)) (c .wide .ensures .0)
 
 pub cut-short-spec : {M : Type 1} → statement M
 cut-short-spec =

@@ -39,7 +39,7 @@ bit c = sym (c .before .zero-bit-set .ensures) ∙ c .if2 .left
 rises : (c : tie.Else3) → ltb (first (S (first-passed (second-passed c)))) (least (first-passed (second-passed c))) ≡ false
 rises c =
     let k = first-passed (second-passed c) in
-    le-ltb (first (S k)) (least k) (omega (arith, c .if3 .left, c .before .number .ensures .0))
+    le-ltb (first (S k)) (least k) (omega (arith, c .if3 .left, c .before .wide .ensures .0))
 
 size : (c : tie.Else4) → size-outside (name-size (S (first-passed (second-passed (third-passed c))))) ≡ false
 size c = sym (c .before .size-outside .ensures) ∙ c .if4 .left
@@ -60,14 +60,14 @@ returns-2 c =
     let k = c .before .before .before in
     or-next (whole k) (or-here _ (sym (c .before .zero-bit-set .ensures) ∙ c .if2 .taken))
 
-shared-slice-read-number : tie.Need-shared-slice-read-number
-shared-slice-read-number c = omega (arith, there (c .before .before .before .before))
+shared-slice-read-wide : tie.Need-shared-slice-read-wide
+shared-slice-read-wide c = omega (arith, there (c .before .before .before .before))
 
 returns-3 : tie.Need-returns-3
 unfolding entry-broken
 returns-3 c =
     let k = c .before .before .before in
-    or-next (whole (first-passed k)) (or-next (bit k) (or-here _ (lt-ltb (first (S (first-passed k))) (least (first-passed k)) (omega (arith, c .if3 .taken, c .before .number .ensures .0)))))
+    or-next (whole (first-passed k)) (or-next (bit k) (or-here _ (lt-ltb (first (S (first-passed k))) (least (first-passed k)) (omega (arith, c .if3 .taken, c .before .wide .ensures .0)))))
 
 shared-slice-read-size-outside : tie.Need-shared-slice-read-size-outside
 shared-slice-read-size-outside c = omega (arith, there (first-passed (second-passed (c .before))))
@@ -79,11 +79,11 @@ returns-4 c =
     let j = second-passed k in
     or-next (whole (first-passed j)) (or-next (bit j) (or-next (rises k) (or-here _ (sym (c .before .size-outside .ensures) ∙ c .if4 .taken))))
 
-shared-slice-read-number-2 : tie.Need-shared-slice-read-number-2
-shared-slice-read-number-2 c = omega (arith, there (first-passed (second-passed (third-passed (c .before)))))
+shared-slice-read-wide-2 : tie.Need-shared-slice-read-wide-2
+shared-slice-read-wide-2 c = omega (arith, there (first-passed (second-passed (third-passed (c .before)))))
 
 part-any-outside-end : tie.Need-part-any-outside-end
-part-any-outside-end c = omega (arith, there (first-passed (second-passed (third-passed (c .before .before)))), c .number2 .ensures .0)
+part-any-outside-end c = omega (arith, there (first-passed (second-passed (third-passed (c .before .before)))), c .wide2 .ensures .0)
 
 returns-5 : tie.Need-returns-5
 unfolding entry-broken
@@ -91,7 +91,7 @@ returns-5 c =
     let k = c .before .before .before .before in
     let j = third-passed k in
     let i = second-passed j in
-    let long : 2 + c .before .before .number2 .result - 2 ≡ name-size (S (first-passed i)) = omega (arith, c .before .before .number2 .ensures .0) in
+    let long : 2 + c .before .before .wide2 .result - 2 ≡ name-size (S (first-passed i)) = omega (arith, c .before .before .wide2 .ensures .0) in
     or-next (whole (first-passed i)) (or-next (bit i) (or-next (rises j) (or-next (size k) (c .any-outside .ensures ∙ ap (λ (n : ℕ). any-outside (take n (drop 2 (S (first-passed i))))) long))))
 
 pub entry-broken-spec : {M : Type 1} → statement M
@@ -103,13 +103,13 @@ entry-broken-spec =
     shared-slice-read-zero-bit-set
     (λ c κs. search needs)
     returns-2
-    shared-slice-read-number
+    shared-slice-read-wide
     (λ c κs. search needs)
     returns-3
     shared-slice-read-size-outside
     (λ c κs. search needs)
     returns-4
-    shared-slice-read-number-2
+    shared-slice-read-wide-2
     (λ c κs. search needs)
     (λ c. search needs)
     (λ c. search needs)

@@ -35,7 +35,7 @@ short : (c : tie.In-loop Inv-loop μ-loop) → length (L c) ≤ 8192
 short c = good-long (L c) (c .before .before .before .pre)
 
 -- the turn that a test belongs to
-abbrev turn : tie.After-number3 Inv-loop μ-loop → tie.In-loop Inv-loop μ-loop
+abbrev turn : tie.After-wide3 Inv-loop μ-loop → tie.In-loop Inv-loop μ-loop
 turn c = c .before .before .before .before .before
 
 loop-holds : tie.Need-loop-holds Inv-loop μ-loop
@@ -44,37 +44,37 @@ loop-holds c = (omega arith, left-all _ _ (c .before .pre))
 add-start : tie.Need-add-start Inv-loop μ-loop
 add-start c = record { fits = omega (arith, inside c, short c) }
 
-shared-slice-read-number : tie.Need-shared-slice-read-number Inv-loop μ-loop
-shared-slice-read-number c = omega (arith, inside (c .before))
+shared-slice-read-wide : tie.Need-shared-slice-read-wide Inv-loop μ-loop
+shared-slice-read-wide c = omega (arith, inside (c .before))
 
 sub-result : tie.Need-sub-result Inv-loop μ-loop
 sub-result c = omega arith
 
 part-result-end : tie.Need-part-result-end Inv-loop μ-loop
-part-result-end c = omega (arith, inside (turn (c .before)), c .before .before .before .before .number .ensures .0)
+part-result-end c = omega (arith, inside (turn (c .before)), c .before .before .before .before .wide .ensures .0)
 
 returns : tie.Need-returns Inv-loop μ-loop
 returns c =
     let k = turn (c .before .before) in
-    let n = c .before .before .before .before .before .number in
-    let b = c .before .before .before .number2 .ensures in
+    let n = c .before .before .before .before .before .wide in
+    let b = c .before .before .before .wide2 .ensures in
     let size : at k + 2 + n .result - (at k + 2) ≡ getD (L k) (at k + 1) 0 = omega (arith, n .ensures .0) in
     part-at _ _ _ (at k + 2) _
-    (left-here (L k) (wanted k) (at k) (k .before .loop .inv .1) (k .loop-test .taken) (b .1) (sym (b .0) ∙ c .before .if1 .taken ∙ c .before .before .number3 .ensures .0)
+    (left-here (L k) (wanted k) (at k) (k .before .loop .inv .1) (k .loop-test .taken) (b .1) (sym (b .0) ∙ c .before .if1 .taken ∙ c .before .before .wide3 .ensures .0)
     ∙ (λ j. record { start = at k + 2; size = sym size j }))
     refl (omega arith) refl
 
 loop-less : tie.Need-loop-less Inv-loop μ-loop
-loop-less c = omega (arith, inside (turn (c .before)), c .before .before .before .before .number .ensures .0)
+loop-less c = omega (arith, inside (turn (c .before)), c .before .before .before .before .wide .ensures .0)
 
 loop-again : tie.Need-loop-again Inv-loop μ-loop
 loop-again c =
     let k = turn (c .before) in
-    let n = c .before .before .before .before .number in
-    let b = c .before .before .number2 .ensures in (
+    let n = c .before .before .before .before .wide in
+    let b = c .before .before .wide2 .ensures in (
       omega (arith, inside k, n .ensures .0),
       subst (λ (x : ℕ). Left (L k) (wanted k) (at k + 2 + x)) (sym (n .ensures .0))
-          (left-on (L k) (wanted k) (at k) (k .before .loop .inv .1) (k .loop-test .taken) (b .1) (λ e. c .if1 .left (b .0 ∙ e ∙ sym (c .before .number3 .ensures .0)))),
+          (left-on (L k) (wanted k) (at k) (k .before .loop .inv .1) (k .loop-test .taken) (b .1) (λ e. c .if1 .left (b .0 ∙ e ∙ sym (c .before .wide3 .ensures .0)))),
     )
 
 returns-2 : tie.Need-returns-2 Inv-loop μ-loop
@@ -94,7 +94,7 @@ lookup-spec =
     loop-holds
     add-start
     (λ c. search needs)
-    shared-slice-read-number
+    shared-slice-read-wide
     (λ c κs. search needs)
     (λ c. search needs)
     (λ c. search needs)

@@ -6,7 +6,7 @@ use Rattle.printed.proofs.opening.Statement.{statement}
 use Rattle.printed.proofs.opening.Tie as tie
 
 returns : tie.Need-returns
-returns c = c .nothing .ensures ∙ none-opens _ (c .before .if1 .taken)
+returns c = c .empty .ensures .0 ∙ none-opens _ (c .before .if1 .taken)
 
 returns-2 : tie.Need-returns-2
 returns-2 c = c .stop .ensures ∙ stop-opens _ (c .before .if1 .left)

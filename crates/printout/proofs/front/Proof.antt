@@ -26,7 +26,7 @@ returns c =
     let number = kind .before .before .before in
     let to-kind = then (then (number .put-field .ensures) (kind .before .put .ensures)) (kind .put2 .ensures) in
     whole (number .before .empty .ensures .0)
-    (renamed (joined _ _ _ _ _ (kind .before .before .letter-of .ensures) (c .before .wide .ensures)) (then to-kind (c .put-number .ensures)))
+    (renamed (joined _ _ _ _ _ (kind .before .before .letter-of .ensures) (c .before .wide .ensures .0)) (then to-kind (c .put-number .ensures)))
     (lit≤ tt)
 
 pub front-spec : {M : Type 1} → statement M

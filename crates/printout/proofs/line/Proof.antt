@@ -65,7 +65,7 @@ returns c =
     let to-verdict = then (then to-stamp (verdict .before .put-verdict .ensures)) (verdict .put3 .ensures) in
     let all = then (then to-verdict (c .before .put-number .ensures)) (c .put4 .ensures) in
     whole (number .before .empty .ensures .0)
-    (renamed (joined _ _ _ _ _ _ _ _ (kind .before .before .letter-of .ensures) (action .before .wide .ensures)) all)
+    (renamed (joined _ _ _ _ _ _ _ _ (kind .before .before .letter-of .ensures) (action .before .wide .ensures .0)) all)
     (lit≤ tt)
 
 pub line-spec : {M : Type 1} → statement M

@@ -23,7 +23,7 @@ is-filled c =
     let first = second .before .before .before .before in
     filled _ _ _ (first .put-field .last .0) (second .put-field2 .last .0) (c .put-field3 .last .0)
     (first .put-field .ensures) (second .put-field2 .ensures) (c .put-field3 .ensures)
-    ∙ ap₂ (λ (k a : ℕ). record-bits k a (start c .args .less)) (first .before .wide .ensures) (second .before .wide2 .ensures)
+    ∙ ap₂ (λ (k a : ℕ). record-bits k a (start c .args .less)) (first .before .wide .ensures .0) (second .before .wide2 .ensures .0)
 
 pack-requires : tie.Need-pack-requires
 pack-requires c κs =

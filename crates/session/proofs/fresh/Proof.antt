@@ -18,7 +18,7 @@ returns c =
     let number = t .before in
     c .unmoved .ensures
     ∙ ap (λ (s : Session). record { answer = answer-of (Calls.refused (number .refused .result)); session = s })
-    (made .blank .ensures ∙ (λ i. blank (none .before .no-property .ensures i) (none .none .ensures i)) ∙ blank-zeros)
+    (made .blank .ensures ∙ (λ i. blank (none .before .none .ensures i) (none .none2 .ensures i)) ∙ blank-zeros)
     ∙ sym (fresh-refused (number .before .args .p) (number .refused .result) (sym (number .refused .ensures)) (t .if1 .taken))
 
 returns-2 : tie.Need-returns-2

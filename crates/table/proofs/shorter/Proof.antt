@@ -6,7 +6,7 @@ use native.Mathlib.Omega.{arith}
 use lib.ListN.{length, getD, replicate, length-set}
 use Rattle.table.specs.Table.{action-at, Shorter}
 use Rattle.table.proofs.Falling.{shorter-found, shorter-one, shorter-more}
-use Rattle.table.proofs.Recursion.{fall-back-le}
+use Rattle.meaning.proofs.Lengths.{fall-back-le}
 use Rattle.table.proofs.shorter.Statement.{statement}
 use Rattle.table.proofs.shorter.Tie as tie
 
@@ -39,7 +39,7 @@ cast-falls c =
     let a = turn c .before .args in
     let k = turn c .loop .k in
     let s = action-at (a .outputs .now) (a .numbers .now) in
-    record { fits = omega (arith, c .fall-back .ensures, fall-back-le s (a .n) k (k - 1) (s k)) }
+    record { fits = omega (arith, c .fall-back .ensures, fall-back-le s (a .n) k (s k) (k - 1)) }
 
 loop-again : tie.Need-loop-again Inv-loop μ-loop
 loop-again c =

@@ -3,7 +3,7 @@ use Prim.Native.Nat.{ℕ, _+_, _*_}
 use mathlib.Core.Path.{_≡_, ap, _∙_}
 use mathlib.Core.Bool.{Bool, false}
 use mathlib.Core.List.{List}
-use Rattle.fields.specs.Fields.{field, bit, number}
+use Rattle.fields.specs.Fields.{field, bit}
 use Rattle.property.specs.declared.Property.{Property}
 use Rattle.property_form.specs.Read.{length-read, places, output-read, number-read, mask, property-read}
 use borrow.Author.Needs.{needs}

@@ -10,7 +10,6 @@ use lib.ListN.{length, getD}
 use lib.Seq.{paste, paste-zero}
 use Rattle.laws.specs.Places.{first}
 use Rattle.property.specs.Meant.{action-of}
-use Rattle.fields.specs.Fields.{number}
 use Rattle.property_form.specs.Form.{sequence-bits}
 use Rattle.property_form.proofs.Laws.{action-put}
 use Rattle.property_form.proofs.write.put_actions.Statement.{statement}
@@ -43,7 +42,7 @@ loop-again c =
       omega (arith, turn),
       action-put (a .list .now) (first .put-field .last .0) (second .put-field2 .last .0) (l .list) (λ j. getD (a .t2) j false) (λ j. getD (a .t3) j 0)
           (l .i) (direction .one-if .result) (number .wide .result) (omega (arith, turn .before .before .before)) (l .inv .1)
-          (direction .one-if .ensures) (number .wide .ensures) (first .put-field .ensures) (second .put-field2 .ensures),
+          (direction .one-if .ensures) (number .wide .ensures .0) (first .put-field .ensures) (second .put-field2 .ensures),
       second .put-field2 .kept .0 ∙ first .put-field .kept .0 ∙ l .inv .2,
     )
 
