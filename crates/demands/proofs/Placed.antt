@@ -1,16 +1,46 @@
--- The numbers of an order: each stands once, and they rise within a channel.
+-- An order that is shown, in the demands' words: it is the first, its numbers are those of its lines, each once and rising within a channel, and
+-- its moments the earliest.
 use Prim.Native.Nat.{ℕ, suc, _<_}
-use mathlib.Core.Path.{_≡_, refl, sym, _∙_, ap, subst}
+use mathlib.Core.Path.{_≡_, refl, sym, _∙_, ap, subst, subst₂}
+use mathlib.Core.Logic.{_⊎_, inl, inr}
 use mathlib.Core.Bool.{Bool, true, false, cond, true≢false}
-use mathlib.Core.List.{List, [], _∷_, _++_}
+use mathlib.Core.List.{List, [], _∷_, _++_, Forall₂, Forall₂·nil, Forall₂·cons}
 use native.Mathlib.Omega.{arith}
 use lib.ListN.{length, getD, drop}
+use lib.IntN.{ℤ}
+use lib.Signed.{_≤ℤ_}
 use Rattle.meaning.specs.Words.{Action, Line, Run}
 use Rattle.meaning.specs.Node.{ins, outs, keep-input, keep-output, Numbered, Order}
 use Rattle.meaning.specs.Matcher.{is-input}
-use Rattle.reasons.specs.Reasons.{numbers-of, gets-in, goes-out, numbered, line-numbers, Names}
+use Rattle.reasons.specs.Reasons.{NoneLater, Sooner, numbers-of, gets-in, goes-out, numbered, line-numbers, Names}
 use Rattle.reasons.proofs.Numbers.{ins-named, outs-named}
-use Rattle.demands.specs.Why.{Before, InOrder}
+use Rattle.demands.specs.Why.{ComesBefore, Before, InOrder}
+
+-- ---- the same in other words
+
+comes-before : {order other : List Line} → Sooner order other → ComesBefore order other
+comes-before s = subst₂ ComesBefore (sym (s .one)) (sym (s .two)) (go (s .same))
+  where
+    go : (same : List Line)
+        → ComesBefore (same ++ record { action = Action.output (s .output); stamp = s .sent } ∷ s .after) (same ++ record { action = Action.input (s .input); stamp = s .got } ∷ s .behind)
+    go [] = inl tt
+    go (x ∷ same) = inr (refl, go same)
+
+pub first-shown : {order other : List Line} → (order ≡ other) ⊎ Sooner order other → (order ≡ other) ⊎ ComesBefore order other
+first-shown (inl e) = inl e
+first-shown (inr s) = inr (comes-before s)
+
+pub names-each : (run : Run) (ks : List ℕ) (ls : List Line) → Names run ks ls → Forall₂ (Numbered run) ks ls
+names-each run [] [] h = Forall₂·nil
+names-each run [] (l ∷ ls) h = absurd h
+names-each run (k ∷ ks) [] h = absurd h
+names-each run (k ∷ ks) (l ∷ ls) h = Forall₂·cons (h .0) (names-each run ks ls (h .1))
+
+pub none-later : (ms ns : List ℤ) → NoneLater ms ns → Forall₂ _≤ℤ_ ms ns
+none-later [] [] h = Forall₂·nil
+none-later [] (n ∷ ns) h = absurd h
+none-later (m ∷ ms) [] h = absurd h
+none-later (m ∷ ms) (n ∷ ns) h = Forall₂·cons (h .0) (none-later ms ns (h .1))
 
 -- ---- a number has one line
 

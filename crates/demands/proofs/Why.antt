@@ -2,18 +2,19 @@
 use Prim.Native.Nat.{ℕ, zero, suc, _^_, _<_}
 use mathlib.Core.Path.{_≡_, refl, sym, ap, ap₂, _∙_, subst}
 use mathlib.Core.Bool.{not, _||_}
-use mathlib.Core.List.{List, [], _∷_, _++_}
+use mathlib.Core.List.{List, [], _∷_, _++_, Forall₂}
 use native.Mathlib.Omega.{arith}
 use lib.ListN.{length, take, drop}
 use lib.Dec.{eqb, ltb}
 use lib.IntN.{ℤ, pos, negsuc}
+use lib.Signed.{_≤ℤ_}
 use Rattle.meaning.specs.Words.{Line, Run}
 use Rattle.meaning.specs.Words
-use Rattle.meaning.specs.Node.{Given, Verdict, verdict-number, IsVerdict}
+use Rattle.meaning.specs.Node.{Given, NeverFall, Numbered, Verdict, verdict-number, IsVerdict}
 use Rattle.meaning.specs.Numbers.{given, first-of, property-refusal}
 use Rattle.meaning.specs.Calls.{Call, fresh-clock, Watch, fresh, watched, AllTaken, Standing}
 use Rattle.meaning.proofs.Refusals.{first-of-none}
-use Rattle.reasons.specs.Reasons.{Earliest, Names, line-numbers, lines-refusal}
+use Rattle.reasons.specs.Reasons.{Names, line-numbers, lines-refusal}
 use Rattle.reasons.proofs.Reached.{one-verdict, reached-clear}
 use Rattle.reasons.proofs.Numbers.{numbers-name, order-long}
 use Rattle.reasons.proofs.Lines.{as-calls, takes-all, StopsAt, stops-at}
@@ -32,7 +33,7 @@ use Rattle.demands.specs.Listing.{InDecimal}
 use Rattle.demands.specs.Why.{InOrder, Shown, ShownBy, FirstReached}
 use Rattle.demands.proofs.Running.{running, running-number}
 use Rattle.demands.proofs.Digits.{decimal-reads}
-use Rattle.demands.proofs.Placed.{numbers-in-order}
+use Rattle.demands.proofs.Placed.{first-shown, names-each, none-later, numbers-in-order}
 
 -- ==== Refusals: "the property's 1, 2, 3 and the lines' 3, 4, 5, 6 as a session gives them, then 13 .., then 9 ..; what is refused alters no
 -- list". 7 is for lists of a run that are not equally long.
@@ -128,10 +129,12 @@ shown p run Sort l m s =
       order = s .order;
       explains = s .is-first .fits .0;
       of-the-sort = s .is-first .fits .1;
-      first = λ other e h. s .is-first .first other (e, h);
-      numbers = subst (λ (x : List ℕ). Names run x (s .order)) (sym front) named;
+      first = λ other e h. first-shown (s .is-first .first other (e, h));
+      numbers = subst (λ (x : List ℕ). Forall₂ (Numbered run) x (s .order)) (sym front) (names-each run _ (s .order) named);
       in-order = subst (λ (x : List ℕ). InOrder x (s .order)) (sym front) (numbers-in-order run (s .order) (s .is-first .fits .0 .is-order));
-      moments = subst (Earliest p (s .order)) (sym times) (s .earliest);
+      given = subst (Given p (s .order)) (sym times) (s .earliest .given);
+      never-fall = subst NeverFall (sym times) (s .earliest .never-fall);
+      earliest = λ others g n. subst (λ (x : List ℤ). Forall₂ _≤ℤ_ x others) (sym times) (none-later (s .moments) others (s .earliest .least others g n));
       numbers-stay = ap₂ (λ (n : ℕ) (x : List ℕ). drop n x) (sym numbers-long) (s .shown-numbers) ∙ over-rest (line-numbers run (s .order)) (l .numbers) ∙ ap (λ (n : ℕ). drop n (l .numbers)) numbers-long;
       moments-stay = ap₂ (λ (n : ℕ) (x : List ℤ). drop n x) (sym moments-long) (s .shown-moments) ∙ over-rest (s .moments) (l .moments) ∙ ap (λ (n : ℕ). drop n (l .moments)) moments-long;
     }
