@@ -1,4 +1,4 @@
--- The words in which the demands speak of traces and of calls that are made one after the other.
+-- The words in which the demands speak of calls, packed forms, traces, what is printed, names and orders.
 pub mod Refuses
 pub mod Called
 pub mod Packed
