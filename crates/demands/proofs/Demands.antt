@@ -72,8 +72,9 @@ pub use Rattle.demands.proofs.Same.{demand-tap}
 pub use Rattle.demands.proofs.Digits.{decimal-reads}
 pub use Rattle.demands.proofs.Texts.{demand-header, demand-last, demand-line, demand-named-line, demand-reached, demand-placed, demand-alone}
 pub use Rattle.demands.proofs.Printed.{text-kept, demand-size, demand-begun, demand-printed, demand-named-record}
--- Names (document 02, CR 2), in `Names`: the lists bit by bit, `names::refused` and `name`, the listing with names.
-pub use Rattle.demands.proofs.Names.{list-taken, list-back, list-one-packing, one-list, one-entry, two-packed, two-read, size-read, demand-1-names, demand-name, name-handed, demand-1-lists, demand-named}
+-- Names (document 02, CR 2): the lists bit by bit; `names::refused` and `name`, the listing with names.
+pub use Rattle.demands.proofs.Lists.{list-taken, list-back, list-one-packing, one-list, one-entry, two-packed, two-read, size-read, demand-1-lists}
+pub use Rattle.demands.proofs.Names.{demand-1-names, demand-name, name-handed, demand-named}
 -- Why a run has its verdict (document 02, CR 6), in `Why`: `why::explain`, and the moments that are shown.
 pub use Rattle.demands.proofs.Placed.{not-twice}
 pub use Rattle.demands.proofs.Why.{demand-1-why, as-a-session, demand-why, moment-reads, moment-below-reads}

@@ -18,6 +18,7 @@ pub mod Listing
 pub mod Same
 pub mod Named
 pub mod Printed
+pub mod Lists
 pub mod Names
 pub mod Told
 pub mod Placed
