@@ -81,6 +81,8 @@ pub use Rattle.demands.proofs.Why.{demand-1-why, as-a-session, demand-w
 -- How many lines were lost (document 02, CR 7), in `Lost`: a gap's number read and written, `mark` and its refusals, that nothing depends on the
 -- number, and two walks joined.
 pub use Rattle.demands.proofs.Lost.{gap-read, gap-number, gap-written, demand-1-mark, same-watched, same-told, same-step, same-through, same-answers, same-walk, same-judge, demand-joined}
+-- A walk that has used its budget up has not looked further.
+pub use Rattle.demands.proofs.Walks.{budget-spent}
 -- What is called, and what the session record holds after any calls.
 pub use Rattle.demands.proofs.Called.{kinds, own-call, line-called, mark-called, event-called, property-called, lines-called, name-called, record-called, stop-called, walk-called, zeros-called}
 pub use Rattle.demands.proofs.Held.{running-holds, demand-10}

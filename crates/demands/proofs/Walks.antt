@@ -96,6 +96,12 @@ pub record WalkedOver (s : Session) (bytes : List ℕ) (budget : ℕ) (w : Walki
   pub stops : StopsBy (w .stop) (budget - w .taken) (w .session) (behind entries bytes) (w .refusal) more
   pub read : w .read ≡ 6 * w .taken + more
 
+-- "With budget 0 left nothing more is read": then it stopped by its budget.
+pub budget-spent : (stop : ℕ) (s : Session) (bytes : List ℕ) (number more : ℕ) → StopsBy stop 0 s bytes number more → (stop ≡ 0) × (number ≡ 0) × (more ≡ 0)
+budget-spent zero s bytes number more h = (refl, h .1, h .2)
+budget-spent (suc zero) s bytes number more h = absurd (h .0 refl)
+budget-spent (suc (suc other)) s bytes number more h = absurd (h .0 refl)
+
 -- the last gap's number, by the bytes and by their records
 pub begun-lost : (bytes : List ℕ) (before : ℕ) (entries : List Entry) → BeginsWith bytes before entries → (lost : ℕ) → last-lost lost (length entries) bytes ≡ last-gap lost entries
 unfolding last-lost last-gap
