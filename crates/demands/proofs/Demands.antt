@@ -40,7 +40,7 @@ use Rattle.walk.specs.Walk.{walk-of, rest-start}
 use Rattle.stretch.specs.Judge.{judge-of, one-number}
 use Rattle.stretch.proofs.Judging.{one-long}
 use Rattle.printed.specs.Listing.{records-by, listing-by}
-pub use Rattle.printed.proofs.Whole.{listing-taken, listing-refused, counted as listing-count}
+pub use Rattle.printed.proofs.Whole.{listing-taken, listing-refused}
 use Rattle.demands.specs.Refuses.{Refuses}
 use Rattle.demands.specs.Uses.{Use, session-through}
 use Rattle.demands.specs.Called.{zero-session}
@@ -54,6 +54,7 @@ use Rattle.demands.proofs.Uses.{uses-are-calls}
 use Rattle.demands.proofs.Texts.{demand-header, demand-last}
 use Rattle.demands.proofs.Called.{zeros-called}
 use Rattle.demands.proofs.Listing.{ShownBy, read-good, listing-shown}
+pub use Rattle.demands.proofs.Listing.{listing-count}
 use Rattle.demands.proofs.Forms.{fresh-number}
 -- "Packed properties and traces read back as written, and only one packing of each is taken."
 pub use Rattle.property_form.proofs.RoundTrip.{write-then-read as property-reads-back, write-then-rest as property-rest-back, read-then-write as property-writes-back, one-packing as property-one-packing}
@@ -89,7 +90,7 @@ pub use Rattle.demands.proofs.Held.{running-holds, demand-10}
 -- A verdict once told stays told (document 02, CR 3): of the calls that run (`Told`), behind `running-3`.
 pub use Rattle.demands.proofs.Told.{told-stays, closed-stays, closed-history, line-stands, session-stays, walk-stays, listing-stays, refused-stays}
 -- Lost lines that demand 3's premises cover: behind their mark, and before the second of two marks.
-pub use Rattle.meaning.proofs.Histories.{mark-before-lost, second-mark-behind-lost}
+pub use Rattle.meaning.proofs.Lost.{mark-before-lost, second-mark-behind-lost}
 
 -- ==== Demand 2, over the meaning. "After each line taken while the watcher isn't blind, the verdict on the run is exact."
 module _ (p : PropertyMeant) (good : property-refusal p ≡ 0) where

@@ -12,7 +12,8 @@ use Rattle.meaning.specs.Step.{grown}
 use Rattle.meaning.specs.History.{Event, fed, all-lines, Premises, highest, Quiet, NoMark, BreaksAfter}
 use Rattle.meaning.proofs.Lengths.{lengths-reading}
 use Rattle.meaning.proofs.Calls.{grown-agrees, standing-agrees, standing-unique, answer-agrees}
-use Rattle.meaning.proofs.Histories.{blind-until, history-verdict, taken-append, kept-same, kept-taken, fed-append}
+use Rattle.meaning.proofs.Lost.{history-verdict}
+use Rattle.meaning.proofs.Histories.{blind-until, taken-append, kept-same, kept-taken, fed-append}
 use Rattle.property.specs.Meant.{meant}
 use Rattle.property.specs.declared.Property.{Property}
 use Rattle.cuts.specs.Steps.{verdict-by, answer-by}

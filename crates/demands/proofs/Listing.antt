@@ -1,10 +1,11 @@
 -- What the records of a trace add to a listing: a row for each (`Rows`), and the last line.
-use Prim.Native.Nat.{ℕ, zero, suc, _+_, _%_, _^_, _<_, _≤_}
+use Prim.Native.Nat.{ℕ, zero, suc, _+_, _*_, _%_, _^_, _<_, _≤_}
 use mathlib.Core.Path.{_≡_, refl, sym, _∙_, ap, ap₂, subst}
 use mathlib.Core.Bool.{Bool, true, false, cond}
 use mathlib.Core.Logic.{inl, inr}
 use mathlib.Core.List.{List, [], _∷_, _++_, append-assoc}
 use native.Mathlib.Omega.{arith}
+use lib.Arith.{digits-mod}
 use lib.ListN.{length, drop, length-drop}
 use Rattle.meaning.specs.Node.{Verdict, verdict-number}
 use Rattle.meaning.specs.Numbers.{property-refusal}
@@ -37,6 +38,17 @@ use Rattle.demands.proofs.Texts.{demand-last, demand-line}
 use Rattle.demands.proofs.Running.{running, seen, running-range, running-next}
 use Rattle.demands.proofs.Exact.{standing-told}
 use Rattle.demands.proofs.Walks.{Front, entry, ended, refused, front, entry-latest}
+
+-- Up to 2 ^ 64 − 1 records the count is their number.
+pub listing-count : (number : ℕ) (entries : List Entry) → number + length entries < 2 ^ 64 → counted number entries ≡ number + length entries
+listing-count number [] h = omega arith
+listing-count number (e ∷ entries) h =
+    let few : number + 1 < 2 ^ 64 = omega (arith, h) in
+    let z : number + 1 ≡ 0 * 2 ^ 64 + (number + 1) = omega arith in
+    let one : (number + 1) % 2 ^ 64 ≡ number + 1 = ap (λ (n : ℕ). n % 2 ^ 64) z ∙ digits-mod 0 few in
+    ap (λ (n : ℕ). counted n entries) one
+    ∙ listing-count (number + 1) entries (omega (arith, h))
+    ∙ (let s : number + 1 + length entries ≡ number + suc (length entries) = omega arith in s)
 
 -- ---- listings
 

@@ -1,7 +1,7 @@
 -- Demand 1 of the packed forms: "a numbered refusal, given exactly when the rules say so", and nothing else is answered or altered.
-use Prim.Native.Nat.{ℕ, zero, suc, _+_, _-_, _*_, _%_, _^_, _<_}
+use Prim.Native.Nat.{ℕ, suc, _+_, _-_, _*_, _%_, _^_}
 use mathlib.Core.Path.{_≡_, refl, sym, _∙_, ap, subst}
-use mathlib.Core.Bool.{not, cond, _&&_, _||_}
+use mathlib.Core.Bool.{Bool, true, false, not, cond, _&&_, _||_}
 use mathlib.Core.List.{List}
 use native.Mathlib.Omega.{arith}
 use lib.ListN.{length, drop}
@@ -21,15 +21,15 @@ use Rattle.property_form.proofs.Laws.{digit-mask}
 use Rattle.property_form.proofs.ReadBits.{action-read, sequence-read}
 use Rattle.fields.specs.Fields.{digit, bit, field}
 use Rattle.fields.specs.Rest.{Rest}
-use Rattle.fields.proofs.Laws.{bit-lt, field-lt}
+use Rattle.fields.proofs.Laws.{bit-lt}
 use Rattle.record_form.specs.Record.{record-answer, read-refusal, fields-refusal, bytes-read, broken, stamp-above, write-refusal}
 use Rattle.record_form.specs.Record
 use Rattle.record_form.proofs.Reading.{refusal-of, taken-answer, size-taken}
 use Rattle.tap_form.specs.Tap.{since, tap-stamp, tap-broken, tap-fields-refusal, tap-refusal, tap-answer, tap-bytes-read}
 use Rattle.tap_form.proofs.Reading.{tap-number, tap-taken, tap-size-taken}
 use Rattle.demands.specs.Refuses.{Refuses}
-use Rattle.demands.specs.Called.{zero-property}
-use Rattle.demands.specs.Packed.{action-by, PropertyFields, property-bytes, record-broken, past-limit}
+use Rattle.demands.specs.Called.{action-if, zero-property}
+use Rattle.demands.specs.Packed.{PropertyFields, property-bytes, record-broken, past-limit}
 use Rattle.demands.proofs.Forms.{answer-refused, record-not-written}
 
 -- `read_property` with `property_rest`: 7, 8, 1, 2, 3; a property of zeros, and no byte is taken.
@@ -54,17 +54,16 @@ demand-read-property s e =
     let r : property-read-refusal s ≡ 0 = sym (refusal-read s) ∙ e in
     (subst (λ (p : Property). PropertyFields s (meant p)) (sym (property-of-read s r)) fields, taken-all s r)
   where
-    by-flag : (b k : ℕ) → b < 2 → action-of (eqb b 1) k ≡ action-by b k
-    by-flag zero k h = refl
-    by-flag (suc zero) k h = refl
-    by-flag (suc (suc b)) k h = absurd (omega (arith, h))
+    by : (o : Bool) (k : ℕ) → action-of o k ≡ action-if o k
+    by true k = refl
+    by false k = refl
 
     fields : PropertyFields s (meant (property-read s))
     fields =
         record {
           lb = refl;
           ub = refl;
-          sequence = sequence-read s ∙ first-same (action-read s) _ (field s 0 6) (λ i h. by-flag (field s (58 + 7 * i) 1) _ (field-lt s (58 + 7 * i) 1));
+          sequence = sequence-read s ∙ first-same (action-read s) _ (field s 0 6) (λ i h. by (eqb (field s (58 + 7 * i) 1) 1) _);
           allowed = λ k h. unfold digit in (ap (λ (d : ℕ). eqb d 1) (digit-mask (bit s) (bit-lt s) (58 + 7 * field s 0 6) 64 k h));
         }
 

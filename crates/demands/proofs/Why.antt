@@ -189,7 +189,7 @@ demand-why p ls l l2 r m m2 h e = go (why-refusal p ls l l2) refl h
           orders = shown-by (h .verdict) (meant p) (run-of ls) l l2 m m2 (h .orders);
         }
 
--- ==== `number moment`, as `printout::reason::placed` writes it: a moment is shown in decimal, a negative one behind a minus sign.
+-- ==== `number moment`, as `reason_text::placed` writes it: a moment is shown in decimal, a negative one behind a minus sign.
 pub moment-reads : (n : ℕ) → n < 2 ^ 64 → InDecimal n (signed (pos n))
 unfolding signed
 moment-reads n h = decimal-reads n h

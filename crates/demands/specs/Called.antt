@@ -32,8 +32,8 @@ abbrev pub held-actions : List Line → List ℕ
 held-actions lines = padded 65 0 (map (λ (l : Line). action-number (l .action)) lines)
 
 -- "A refusal carries 0 in all other numbers": a property and a session of zeros.
-abbrev pub zeros : List ℕ
-zeros = replicate 65 0
+abbrev pub zero-words : List ℕ
+zero-words = replicate 65 0
 
 abbrev pub zero-property : Data.Property
 zero-property = record { n = 0; output = replicate 32 false; number = replicate 32 0; allowed = 0; lb = 0; ub = 0 }
@@ -42,6 +42,6 @@ abbrev pub zero-session : Session
 zero-session =
     record {
       property = zero-property;
-      shared = record { held = zeros; acts = zeros; status = record { span = record { count = 0 }; clock = record { latest = 0; blind = false } } };
-      row = record { masks = zeros; armed = zeros };
+      shared = record { held = zero-words; acts = zero-words; status = record { span = record { count = 0 }; clock = record { latest = 0; blind = false } } };
+      row = record { masks = zero-words; armed = zero-words };
     }

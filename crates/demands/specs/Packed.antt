@@ -1,24 +1,20 @@
 -- Document 01, "Packed forms": a packed property by its fields, and what is broken.
-use Prim.Native.Nat.{ℕ, zero, suc, _+_, _*_, _/_, _<_}
+use Prim.Native.Nat.{ℕ, _+_, _*_, _/_, _<_}
 use mathlib.Core.Path.{_≡_}
 use mathlib.Core.Bool.{Bool, not, _&&_, _||_}
 use mathlib.Core.List.{List}
 use lib.Dec.{eqb, ltb}
 use Rattle.laws.specs.Places.{first}
-use Rattle.meaning.specs.Words.{Action, Property}
+use Rattle.meaning.specs.Words.{Property}
 use Rattle.fields.specs.Fields.{bit, field}
-
--- "1 bit (0 input, 1 output) and 6 bits number"
-abbrev pub action-by : (direction number : ℕ) → Action
-action-by zero number = Action.input number
-action-by (suc more) number = Action.output number
+use Rattle.demands.specs.Called.{action-if}
 
 -- "6 bits length n; 26 bits LB; 26 bits UB; for each action 1 bit (0 input, 1 output) and 6 bits number; 64 bits allowed, the first for
 -- output 0": the bytes s hold this property.
 pub record PropertyFields (s : List ℕ) (q : Property) : Type 0 where
   pub lb : q .LB ≡ field s 6 26
   pub ub : q .UB ≡ field s 32 26
-  pub sequence : q .sequence ≡ first (λ i. action-by (field s (58 + 7 * i) 1) (field s (59 + 7 * i) 6)) (field s 0 6)
+  pub sequence : q .sequence ≡ first (λ i. action-if (eqb (field s (58 + 7 * i) 1) 1) (field s (59 + 7 * i) 6)) (field s 0 6)
   pub allowed : (k : ℕ) → k < 64 → q .allowed k ≡ eqb (bit s (58 + 7 * field s 0 6 + k)) 1
 
 -- "122 + 7n bits: 17 bytes for n = 1, 44 for n = 32", "zero bits to a full byte"

@@ -29,5 +29,6 @@ pub mod Lengths
 pub mod Splitting
 pub mod Boundary
 pub mod Histories
+pub mod Lost
 -- The cases marked P.
 pub mod Cases

@@ -1,13 +1,11 @@
--- The whole listing of a property and of records: its count, its loop, and its beginning.
-use Prim.Native.Nat.{ℕ, zero, suc, _+_, _*_, _%_, _^_, _≤_, _<_}
+-- The whole listing of a property and of records: its loop, and its beginning.
+use Prim.Native.Nat.{ℕ, zero, suc, _+_, _≤_, _<_}
 use mathlib.Core.Path.{_≡_, refl, sym, _∙_, ap}
 use mathlib.Core.Bool.{Bool, true, false, cond}
-use mathlib.Core.List.{List, [], _∷_, _++_, append-nil}
+use mathlib.Core.List.{List, [], _++_, append-nil}
 use native.Mathlib.Omega.{arith}
-use lib.Arith.{digits-mod}
 use lib.Dec.{eqb, eqb·suc-zero}
 use lib.ListN.{length, take, drop, length-take, length-drop}
-use Rattle.meaning.specs.Calls.{Call}
 use Rattle.property_form.specs.Read.{read}
 use Rattle.record_form.specs.Record.{Reader, refused}
 use Rattle.trace_form.specs.ReadAs.{ReadAs, read-as}
@@ -21,20 +19,8 @@ use Rattle.line_text.specs.Text.{text-of}
 use Rattle.printout.specs.Text.{header-text, stop-text}
 use Rattle.line_text.proofs.Held.{text-held}
 use Rattle.printed.specs.declared.Printed.{Printed}
-use Rattle.printed.specs.Printed.{one-after, last-line, by-one, printed-by, opening-text, begun-of}
-use Rattle.printed.specs.Listing.{shown, and-more, lines-by, records-by, listing-by, count-after}
-
--- ---- the count
-
--- Up to 2 ^ 64 − 1 records the count is their number.
-pub counted : (count : ℕ) (cs : List Call) → count + length cs < 2 ^ 64 → count-after count cs ≡ count + length cs
-unfolding count-after one-after
-counted count [] h = omega arith
-counted count (c ∷ rest) h =
-    let l : count + 1 < 2 ^ 64 = omega arith in
-    let z : count + 1 ≡ 0 * 2 ^ 64 + (count + 1) = omega arith in
-    let e : (count + 1) % 2 ^ 64 ≡ count + 1 = ap (λ (n : ℕ). n % 2 ^ 64) z ∙ digits-mod 0 l in
-    ap (λ (n : ℕ). count-after n rest) e ∙ counted (count + 1) rest (omega arith) ∙ (let s : count + 1 + length rest ≡ count + suc (length rest) = omega arith in s)
+use Rattle.printed.specs.Printed.{last-line, by-one, printed-by, opening-text, begun-of}
+use Rattle.printed.specs.Listing.{shown, and-more, lines-by, records-by, listing-by}
 
 -- ---- the loop
 

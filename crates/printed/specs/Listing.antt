@@ -1,15 +1,14 @@
 -- Document 01, case 15: the whole listing that the printing program writes, for any reader of records of a size.
 use Prim.Native.Nat.{ℕ, zero, suc}
 use mathlib.Core.Bool.{cond}
-use mathlib.Core.List.{List, [], _∷_, _++_}
+use mathlib.Core.List.{List, [], _++_}
 use lib.ListN.{length, take, drop}
-use Rattle.meaning.specs.Calls.{Call}
 use Rattle.record_form.specs.Record.{Reader, record-size, record-answer}
 use Rattle.session_record.specs.declared.Session.{Session}
 use Rattle.line_text.specs.declared.Text.{Text}
 use Rattle.printout.specs.Text.{header-text}
 use Rattle.printed.specs.declared.Printed.{Printed}
-use Rattle.printed.specs.Printed.{one-after, printed-by, begun-of}
+use Rattle.printed.specs.Printed.{printed-by, begun-of}
 
 -- The bytes of a text.
 abbrev pub shown : Text → List ℕ
@@ -38,8 +37,3 @@ listing-by size reader property records =
 -- The same of document 01's records.
 abbrev pub listing-of : List ℕ → List ℕ → List ℕ
 listing-of property records = listing-by record-size record-answer property records
-
--- The count after these calls.
-unfoldable pub count-after : ℕ → List Call → ℕ
-count-after count [] = count
-count-after count (c ∷ rest) = count-after (one-after count) rest
