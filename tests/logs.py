@@ -1,6 +1,6 @@
-"""Packed logs, whole and damaged, for tests/listing.py, tests/names.py, tests/tap.py and tests/show_why.py, and how the programs
-are run that list them."""
+"""Packed logs, whole and damaged, long and short, for the tests in Python, and how the programs are run that list them."""
 import os
+import random
 import shlex
 import subprocess
 import sys
@@ -20,7 +20,8 @@ def listing_command(*words):
 def named_command():
     """The program with names is run as the other is, once tools/listing has built it for a log without a byte."""
     done = subprocess.run([TOOL, '--names', os.devnull, os.devnull, os.devnull], stdout=subprocess.PIPE)
-    assert done.stdout.endswith(b'\nstop 0 7\n'), done
+    if done.returncode != 1 or not done.stdout.endswith(b'\nstop 0 7\n'):
+        sys.exit(f'there is no program that lists with names: {done}')
     words = listing_command()
     return words[:-1] + [os.path.join(os.path.dirname(words[-1]), 'named_listing')]
 
@@ -110,7 +111,8 @@ def as_card(data):
     card, latest = data[:at], 0
     while True:
         refusal, kind, action, stamp = rules.read_record(data[at:at + 6], latest)
-        assert not refusal and stamp < latest + rules.TURN
+        if refusal or stamp >= latest + rules.TURN:
+            raise ValueError('the card cannot say this')
         if kind == rules.END:
             return card + rules.TAP_END
         card += rules.pack_tap(kind, 0 if kind == rules.GAP else action, stamp % rules.TURN)
@@ -146,3 +148,30 @@ def end_of(lines):
     """How a listing ends: 'end', or 'stop' and the refusal."""
     last = lines[-1].split()
     return 'end' if last[0] == 'end' else 'stop ' + last[2]
+
+
+# ---- of tests/tools.py and tests/odd.py
+
+B = rules.Property([(False, 0)], 2, 10, 30)
+
+
+def long_log(records, seed, before=b''):
+    """A property and records with gap marks, breaches and quiet stretches among them, few inputs open at a time."""
+    rng = random.Random(seed)
+    data = rules.pack_property(rules.Property([(False, 0), (True, 1)], 2, 3, 9)) + before
+    for i in range(records):
+        # every fifty records or so the run is closed, since a run stays certain once it is
+        if rng.random() < .02:
+            data += rules.pack_record(rules.GAP, i % 64, rng.randrange(30)) + rules.pack_record(rules.INPUT, 1, 19)
+        data += rules.pack_record(rng.randrange(2), rng.choice([0, 0, 1, 1, 2]), rng.choice([0, 1, 2, 4, 7, 12, 20]))
+    return data + rules.END_RECORD
+
+
+LONG = long_log(4000, 20260101)
+LONG_CARD = as_card(long_log(4000, 20260101, rules.pack_record(rules.OUTPUT, 0, rules.TURN - 10_000)))
+
+
+def card_at_limit():
+    """The card's gap marks up to the limit, 257 of them."""
+    counters = [rules.TURN - number for number in range(1, 257)] + [rules.TURN - 1]
+    return b''.join(rules.pack_tap(rules.GAP, 0, counter) for counter in counters)

@@ -22,6 +22,15 @@ WORDS = ["clear", "suspect", "certain", "blind"]
 Property = collections.namedtuple("Property", "sequence allowed lb ub")
 
 
+class Contradiction(Exception):
+    """Two ways to the same answer differ: one of them is wrong here."""
+
+
+def agree(what, one, other):
+    if one != other:
+        raise Contradiction("%s: %s by one way, %s by the other" % (what, one, other))
+
+
 # ---- packed forms
 
 
@@ -168,7 +177,7 @@ def listed_verdict(p, run, most=MOST_LISTED):
     if listed is None:
         return None
     seen = {breaks(p, order) for order in listed}
-    assert seen, "a run without an explanation"
+    agree("a run has an explanation", bool(seen), True)
     return CLEAR if seen == {False} else CERTAIN if seen == {True} else SUSPECT
 
 
@@ -282,9 +291,8 @@ def listing(data, most=MOST_LISTED, size=6, read=read_record):
         listed = None if run is None else listed_verdict(p, run, most)
         if listed is not None:
             both += 1
-            assert listed == verdict, "the two ways to a verdict differ"
-            held = sum(not out and at_ + 2 * p.ub >= stamp for out, _, at_ in run)
-            assert held == len(w.held), "the two ways to the number open differ"
+            agree("a verdict", listed, verdict)
+            agree("the number open", sum(not out and at_ + 2 * p.ub >= stamp for out, _, at_ in run), len(w.held))
         taken += 1
         at += size
         lines.append("%d %s %d %d %s %d" % (taken, "IOG"[kind], action, stamp, WORDS[verdict], len(w.held)))
@@ -460,9 +468,9 @@ def reasons(p, run, most=MOST_LISTED):
         if standing(w) != verdict:
             verdict, line = standing(w), number
     found, listed = orders_stepped(p, run), orders_listed(p, run, most)
-    assert listed in (None, found), "the two ways to an order differ"
+    agree("the first orders", found if listed is None else listed, found)
     breaking, other = found
-    assert verdict == (CLEAR if breaking is None else CERTAIN if other is None else SUSPECT), "the orders are not those of the verdict"
+    agree("the orders of a verdict", verdict, CLEAR if breaking is None else CERTAIN if other is None else SUSPECT)
     return verdict, line, [order for order in found if order is not None], listed is not None
 
 

@@ -3,74 +3,25 @@
 input that comes slowly, bad arguments, bad bytes. Exits 1 at the first thing that is not as docs/DECISIONS.md says.
 
     tests/tools.py [PART..]     all parts unless some are named"""
-import contextlib
 import fcntl
 import os
 import random
 import re
 import resource
-import select
 import shlex
-import shutil
 import signal
 import subprocess
 import sys
-import tempfile
 import threading
 import time
 
 sys.dont_write_bytecode = True
 import logs  # noqa: E402
 import rules  # noqa: E402
+from frame import (CARD, CARD_TEXT, LISTING, MARK, NAMES, PACK, PATIENCE, RELEASE, SAMPLES, SHORT, SITE, SWITCH, TEXT, TOP, UNPACK, Folder,  # noqa: E402
+                   children, contents, file_of, holds, message, run, run_parts, same, some_bytes, some_line, started)
+from logs import B, LONG, LONG_CARD, card_at_limit  # noqa: E402
 from rules import END, END_RECORD, GAP, INPUT, LIMIT, OUTPUT, TAP_END, TURN, pack_record, pack_tap  # noqa: E402
-
-TOP = os.path.dirname(os.path.dirname(os.path.abspath(__file__)))
-PROGRAMS = 'listing', 'named_listing', 'tap_listing', 'show_why'
-PROGRAM, NAMED_PROGRAM, TAP_PROGRAM, WHY_PROGRAM = (os.path.join(TOP, 'target', 'bin', name) for name in PROGRAMS)
-LISTING, NAMES, PACK, UNPACK = (os.path.join(TOP, 'tools', name) for name in ('listing', 'names', 'pack', 'unpack'))
-SAMPLES = sorted(os.path.join(TOP, 'samples', name) for name in os.listdir(os.path.join(TOP, 'samples')) if name.endswith('.bin'))
-SITE, RELEASE = (os.path.join(TOP, 'samples', f'switch-{name}.names') for name in ('site', 'release'))
-SWITCH = os.path.join(TOP, 'samples', 'switch.bin')
-CARD, CARD_TEXT = (os.path.join(TOP, 'samples', name) for name in ('tap.card', 'tap.txt'))
-PATIENCE = 60
-SHORT = 30  # seconds that something ready at once may take on a busy machine
-
-
-class Wrong(Exception):
-    pass
-
-
-def same(what, got, want):
-    if got != want:
-        raise Wrong(f'{what}: {got!r}, expected {want!r}')
-
-
-def holds(what, truth):
-    if not truth:
-        raise Wrong(what)
-
-
-def contents(path):
-    with open(path, 'rb') as file:
-        return file.read()
-
-
-def file_of(folder, name, data):
-    path = os.path.join(folder, name)
-    with open(path, 'wb') as file:
-        file.write(data)
-    return path
-
-
-def run(words, data=b'', stdout=subprocess.PIPE, **more):
-    """Status, output and messages."""
-    done = subprocess.run(words, input=data, stdout=stdout, stderr=subprocess.PIPE, timeout=PATIENCE, **more)
-    return done.returncode, done.stdout, done.stderr.decode()
-
-
-def message(what, text, *words):
-    """One message, with these words in it, and no traceback."""
-    holds(f'{what}: the message is {text!r}', text.endswith('\n') and 'Traceback' not in text and all(w in text for w in words))
 
 
 def environments():
@@ -108,65 +59,6 @@ def lost_output(words, env, folder, quiet=False):
         same('messages when the reader is gone', said, '')
     else:
         message('the reader is gone', said, 'not everything could be written', 'Broken pipe')
-
-
-@contextlib.contextmanager
-def started(words, **more):
-    """A process, ended if it has not ended by itself: where a test fails it may be waiting."""
-    process = subprocess.Popen(words, stdout=subprocess.PIPE, bufsize=0, **more)
-    try:
-        yield process
-    finally:
-        process.kill()
-        for stream in (process.stdin, process.stdout, process.stderr):
-            if stream:
-                stream.close()
-        process.wait()
-
-
-def some_bytes(source, size):
-    """So many bytes, as soon as they are there."""
-    got = b''
-    while len(got) < size:
-        ready, _, _ = select.select([source], [], [], SHORT)
-        holds(f'only {len(got)} of {size} bytes came while the input was open', ready)
-        some = os.read(source.fileno(), size - len(got))
-        holds(f'the output ended after {len(got)} of {size} bytes', some)
-        got += some
-    return got
-
-
-def some_line(source):
-    line = b''
-    while not line.endswith(b'\n'):
-        line += some_bytes(source, 1)
-    return line.decode()
-
-
-# ---- inputs
-
-B = rules.Property([(False, 0)], 2, 10, 30)
-
-
-def long_log(records, seed, before=b''):
-    """A property and records with gap marks, breaches and quiet stretches among them, few inputs open at a time."""
-    rng = random.Random(seed)
-    data = rules.pack_property(rules.Property([(False, 0), (True, 1)], 2, 3, 9)) + before
-    for i in range(records):
-        # every fifty records or so the run is closed, since a run stays certain once it is
-        if rng.random() < .02:
-            data += pack_record(GAP, i % 64, rng.randrange(30)) + pack_record(INPUT, 1, 19)
-        data += pack_record(rng.randrange(2), rng.choice([0, 0, 1, 1, 2]), rng.choice([0, 1, 2, 4, 7, 12, 20]))
-    return data + END_RECORD
-
-
-LONG = long_log(4000, 20260101)
-LONG_CARD = logs.as_card(long_log(4000, 20260101, pack_record(OUTPUT, 0, TURN - 10_000)))
-
-
-def card_at_limit():
-    """The card's gap marks up to the limit, 257 of them."""
-    return b''.join(pack_tap(GAP, 0, counter) for counter in [TURN - number for number in range(1, 257)] + [TURN - 1])
 
 
 # ---- parts
@@ -235,19 +127,6 @@ def listing_slow_reader(folder):
     os.close(reader)
     same('status with an output that does not block', (status, said), (0, ''))
     same('a listing to an output that does not block', b''.join(got).decode().split('\n')[:-1], rules.listing(LONG, 50)[0])
-
-
-def children(pid):
-    found = []
-    for name in os.listdir('/proc'):
-        if name.isdigit():
-            try:
-                stat = contents(f'/proc/{name}/stat').decode('utf-8', 'replace')
-            except OSError:
-                continue
-            if int(stat.rsplit(')', 1)[1].split()[1]) == pid:
-                found.append(int(name))
-    return found
 
 
 def listing_live(folder):
@@ -321,62 +200,6 @@ def leaves_input(words, env, data, behind, last):
     same(f'what is left in the pipe after {last}', left, behind)
 
 
-class Folder:
-    """The tools and the program in a folder of their own, with a space in its name, and an rt that only plays its part."""
-
-    def __init__(self, folder):
-        self.top = os.path.join(folder, 'a folder')
-        self.listing = os.path.join(self.top, 'tools', 'listing')
-        self.program, self.named_program, self.tap_program, self.why_program = (
-            os.path.join(self.top, 'target', 'bin', name) for name in PROGRAMS)
-        self.logs = os.path.join(self.top, 'logs')
-        self.asked = os.path.join(self.top, 'asked')
-        self.said = os.path.join(self.top, 'said')
-        shutil.copytree(os.path.join(TOP, 'tools'), os.path.join(self.top, 'tools'))
-        for part in ('target/bin', 'logs', 'bin', 'no rt'):
-            os.makedirs(os.path.join(self.top, part))
-        os.symlink(sys.executable, os.path.join(self.top, 'no rt', 'python3'))
-        self.build()
-        self.play()
-
-    def build(self):
-        shutil.copy(PROGRAM, self.program)
-        shutil.copy(NAMED_PROGRAM, self.named_program)
-        shutil.copy(TAP_PROGRAM, self.tap_program)
-        shutil.copy(WHY_PROGRAM, self.why_program)
-
-    def play(self, lines=(), status=0, more=':'):
-        """What rt check says, its status, and what else it does. It reads all of its standard input, which must not be the
-        records."""
-        with open(self.said, 'w') as said:
-            said.writelines(line + '\n' for line in lines)
-        with open(os.path.join(self.top, 'bin', 'rt'), 'w') as rt:
-            rt.write(f'''#!/bin/sh
-case $1 in
-doc) exec {shlex.quote(shutil.which('rt'))} doc ;;
-check) cat >/dev/null; cat {shlex.quote(self.said)}; {more}; exit {status} ;;
-esac
-''')
-        os.chmod(os.path.join(self.top, 'bin', 'rt'), 0o755)
-
-    def environment(self, env=None, rt=True):
-        env = dict(os.environ if env is None else env, TMPDIR=self.logs)
-        env['PATH'] = os.path.join(self.top, 'bin') + ':' + env['PATH'] if rt else os.path.join(self.top, 'no rt')
-        return env
-
-    def times_asked(self, program='listing'):
-        """How often rt check was run since the last question, and for nothing but this program."""
-        if not os.path.exists(self.asked):
-            return 0
-        asked = contents(self.asked).split(b'\n')[:-1]
-        os.remove(self.asked)
-        same('what rt is asked', set(asked), {b'check ' + program.encode()})
-        return len(asked)
-
-    def run(self, *words, rt=True, data=b'', listing=None):
-        return run([listing or self.listing] + list(words), data, env=self.environment(rt=rt), cwd='/')
-
-
 UNCHANGED = ['rt: meaning proved (unchanged since it was last proved)', 'rt: listing proved (unchanged since it was last proved)',
              'rt: ok, 14 crates proved']
 PROVED = ['library fields: modules loaded=48 checked=0', 'rt: meaning proved (2 s)', UNCHANGED[1], 'rt: listing proved (8 s)', UNCHANGED[2]]
@@ -388,18 +211,19 @@ def listing_builds(folder):
     data = contents(SAMPLES[0])
     want = ('\n'.join(rules.listing(data)[0]) + '\n').encode()
     asked = f'echo "$*" >>{shlex.quote(made.asked)}'
-    build = f'{asked}; cp {shlex.quote(PROGRAM)} {shlex.quote(made.program)}'
+    build = f'{asked}; cp {shlex.quote(built("listing"))} {shlex.quote(made.program)}'
     made.play(UNCHANGED, more=asked)
-    for words in (['--nonsense'], ['a', 'b'], ['--help', 'a'], ['-'], ['--command', 'a']):
+    for words in (['--nonsense'], ['a', 'b'], ['--command', 'a'], ['-x'], ['--tap=5'], ['a', '--', '-h']):
         status, out, said = made.run(*words)
         same(f'{words}: status, output, rt check', (status, out, made.times_asked()), (2, b'', 0))
         message(str(words), said, 'usage: tools/listing [FILE]')
-    for words, what in ((['no such file'], 'no such file: No such file'), (['/'], '/ is a folder'), ([''], 'No such file')):
+    for words, what in ((['no such file'], 'no such file: No such file'), (['/'], '/: Is a directory'), ([''], 'No such file')):
         status, out, said = made.run(*words)
         same(f'{words}: status, output, rt check', (status, out, made.times_asked()), (2, b'', 0))
         message(str(words), said, what)
-    status, out, said = made.run('--help')
-    same('--help', (status, said, out.startswith(b'usage: tools/listing [FILE]'), made.times_asked()), (0, '', True, 0))
+    for word in ('--help', '-h'):
+        status, out, said = made.run(word)
+        same(word, (status, said, out.startswith(b'usage: tools/listing [FILE]'), made.times_asked()), (0, '', True, 0))
     same('nothing to prove', made.run(data=data), (0, want, ''))
     same('rt check', made.times_asked(), 1)
     link = os.path.join(folder, 'list it')
@@ -410,8 +234,8 @@ def listing_builds(folder):
     same('through two', made.run(SAMPLES[0], listing=again), (0, want, ''))
     same('rt check', made.times_asked(), 2)
     status, out, said = made.run('--command')
-    same('the command', shlex.split(out.decode())[-1], made.program)
-    same('the command, run', run(shlex.split(out.decode()), data)[:2], (0, want))
+    same('the command', shlex.split(os.fsdecode(out))[-1], made.program)
+    same('the command, run', run(shlex.split(os.fsdecode(out)), data)[:2], (0, want))
     made.play(PROVED, more=build)
     for text in ('the sources have changed', 'proving and building the program first, which takes some minutes'):
         status, out, said = made.run(data=data)
@@ -426,7 +250,7 @@ def listing_builds(folder):
     same('status and output where rt check fails', (status, out), (2, b''))
     logs = os.listdir(made.logs)
     same('the number of logs', len(logs), 1)
-    message('rt check fails', said, 'session NOT PROVED', 'status 1', os.path.join(made.logs, logs[0]))
+    message('rt check fails', said, 'session NOT PROVED', 'status 1', logs[0], 'a f\\xf6lder', 'not UTF-8')
     same('the log', contents(os.path.join(made.logs, logs[0])), contents(made.said))
     # without rt a built program runs as it is, if this machine runs x86-64 programs without the kit
     try:
@@ -435,7 +259,7 @@ def listing_builds(folder):
         runs = False
     status, out, said = made.run(rt=False, data=data)
     same('without rt', (status, out), (0, want) if runs else (2, b''))
-    holds(f'without rt: {said!r}', 'Traceback' not in said and (said == '' if runs else 'listing: the program ' in said))
+    holds(f'without rt: {said!r}', 'Traceback' not in said and (said == '' if runs else 'listing: ' in said))
     os.remove(made.program)
     status, out, said = made.run(rt=False, data=data)
     same('without rt and program', (status, out), (2, b''))
@@ -466,7 +290,6 @@ line kind action name stamp verdict open
 14 O 2 old-tile 3061000 suspect 2
 end 14
 '''.encode()
-MARK = b'\xef\xbb\xbf'
 
 
 def listing_names(folder):
@@ -484,7 +307,7 @@ def listing_names(folder):
         same('a listing with names', out.decode().split('\n'), want + [''])
         same(f'the status after {want[-1]}', (status, said), (1 if want[-1].startswith('stop') else 0, ''))
     # a log that cannot be read is one that ends, as it is without names
-    for words, told in (([], ''), (['--names', SITE, RELEASE], 'listing: the log: Input/output error\n')):
+    for words, told in (([], ''), (['--names', SITE, RELEASE], 'listing: /proc/self/mem: Input/output error\n')):
         status, out, said = made.run(*words, '/proc/self/mem')
         same('a log that cannot be read', (status, out.split(b'\n')[1:], said), (1, [b'stop 0 7', b''], told))
 
@@ -546,8 +369,8 @@ def listing_names_builds(folder):
     made = Folder(folder)
     asked = f'echo "$*" >>{shlex.quote(made.asked)}'
     made.play(UNCHANGED, more=asked)
-    for words in (['--names'], ['--names', SITE], ['--names', SITE, RELEASE, SWITCH, SWITCH], ['--names', '-', RELEASE],
-                  ['--names', SITE, '--help'], ['--names', SITE, RELEASE, '-'], [SWITCH, '--names', SITE, RELEASE],
+    for words in (['--names'], ['--names', SITE], ['--names', SITE, RELEASE, SWITCH, SWITCH], ['--names', SITE, '--tap'],
+                  ['--names', SITE, RELEASE, '--names', SITE, RELEASE], ['--names', SITE, RELEASE, '--nonsense'],
                   ['--command', '--names', SITE, RELEASE]):
         status, out, said = made.run(*words)
         same(f'{words}: status, output, rt check', (status, out, made.times_asked()), (2, b'', 0))
@@ -556,10 +379,16 @@ def listing_names_builds(folder):
         status, out, said = made.run('--names', SITE, RELEASE, log)
         same(f'{log}: status, output, rt check', (status, out, made.times_asked()), (2, b'', 0))
         message(log, said, log)
-    builds_one(made, ['--names', SITE, RELEASE, SWITCH], NAMED_SWITCH, NAMED_PROGRAM, made.named_program)
+    same('the file first', made.run(SWITCH, '--names', SITE, RELEASE), (0, NAMED_SWITCH, ''))
+    same('rt check', made.times_asked('named_listing'), 1)
+    builds_one(made, ['--names', SITE, RELEASE, SWITCH], NAMED_SWITCH, made.named_program)
 
 
-def builds_one(made, words, want, built, program):
+def built(name):
+    return os.path.join(TOP, 'target', 'bin', name)
+
+
+def builds_one(made, words, want, program):
     """A sample that needs this program and no other, and the first program without it."""
     name = os.path.basename(program)
     asked = f'echo "$*" >>{shlex.quote(made.asked)}'
@@ -570,7 +399,7 @@ def builds_one(made, words, want, built, program):
     os.remove(program)
     same(f'a sample without {name}', made.run(SWITCH)[0], 0)
     same('rt check', made.times_asked(), 1)
-    made.play(PROVED, more=f'{asked}; cp {shlex.quote(built)} {shlex.quote(program)}')
+    made.play(PROVED, more=f'{asked}; cp {shlex.quote(built(name))} {shlex.quote(program)}')
     for text in ('proving and building the program first, which takes some minutes', 'the sources have changed'):
         status, out, said = made.run(*words)
         same('the listing of a program built anew', (status, out), (0, want))
@@ -651,10 +480,9 @@ def listing_tap(folder):
     status, out, said = made.run('--tap', '/proc/self/mem')
     same('a log that cannot be read', (status, out.split(b'\n')[1:], said), (1, [b'stop 0 7', b''], ''))
     made.play(UNCHANGED, more=f'echo "$*" >>{shlex.quote(made.asked)}')
-    for words in (['--tap', '--nonsense'], ['--tap', CARD, CARD], ['--tap', '-'], [CARD, '--tap'], ['--tap', '--tap'],
-                  ['--tap', '--help'], ['--tap', '--names', SITE, RELEASE], ['--tap', '--names', SITE, RELEASE, CARD],
-                  ['--names', SITE, RELEASE, '--tap'], ['--names', '--tap', SITE, RELEASE], ['--command', '--tap'],
-                  ['--tap', '--command', CARD]):
+    for words in (['--tap', '--nonsense'], ['--tap', CARD, CARD], ['--tap', '--names', SITE, RELEASE],
+                  ['--tap', '--names', SITE, RELEASE, CARD], ['--names', SITE, RELEASE, '--tap'],
+                  ['--names', '--tap', SITE, RELEASE], ['--tap', '--command', CARD]):
         status, out, said = made.run(*words)
         same(f'{words}: status, output, rt check', (status, out, made.times_asked()), (2, b'', 0))
         message(str(words), said, 'usage: tools/listing [FILE]', 'tools/listing --tap [FILE]')
@@ -662,11 +490,14 @@ def listing_tap(folder):
         status, out, said = made.run('--tap', log)
         same(f'{log}: status, output, rt check', (status, out, made.times_asked()), (2, b'', 0))
         message(log, said, log)
-    status, out, said = made.run('--tap', '--command')
-    words = shlex.split(out.decode())
-    same('the command', (status, words[-1], said, made.times_asked('tap_listing')), (0, made.tap_program, '', 1))
+    same('the file first', made.run(CARD, '--tap'), (0, CARD_LISTING, ''))
+    same('rt check', made.times_asked('tap_listing'), 1)
+    for given in (['--tap', '--command'], ['--command', '--tap']):
+        status, out, said = made.run(*given)
+        words = shlex.split(os.fsdecode(out))
+        same('the command', (status, words[-1], said, made.times_asked('tap_listing')), (0, made.tap_program, '', 1))
     same('the command, run', run(words, card)[:2], (0, CARD_LISTING))
-    builds_one(made, ['--tap', CARD], CARD_LISTING, TAP_PROGRAM, made.tap_program)
+    builds_one(made, ['--tap', CARD], CARD_LISTING, made.tap_program)
 
 
 SWITCH_WHY = b'''\
@@ -704,9 +535,8 @@ def listing_why(folder):
         message(text, said, f'the program ended before the listing did (status {status})')
     made.build()
     made.play(UNCHANGED, more=f'echo "$*" >>{shlex.quote(made.asked)}')
-    for words in (['--why', '--nonsense'], ['--why', CARD, CARD], ['--why', '-'], [CARD, '--why'], ['--why', '--why'], ['--why', '--tap'],
-                  ['--tap', '--why'], ['--why', '--help'], ['--why', '--names', SITE, RELEASE], ['--names', SITE, RELEASE, '--why'],
-                  ['--command', '--why'], ['--why', '--command', SWITCH]):
+    for words in (['--why', '--nonsense'], ['--why', CARD, CARD], ['--why', '--tap'], ['--tap', '--why'],
+                  ['--why', '--names', SITE, RELEASE], ['--names', SITE, RELEASE, '--why'], ['--why', '--command', SWITCH]):
         status, out, said = made.run(*words)
         same(f'{words}: status, output, rt check', (status, out, made.times_asked()), (2, b'', 0))
         message(str(words), said, 'usage: tools/listing [FILE]', 'tools/listing --why [FILE]')
@@ -715,10 +545,10 @@ def listing_why(folder):
         same(f'{log}: status, output, rt check', (status, out, made.times_asked()), (2, b'', 0))
         message(log, said, log)
     status, out, said = made.run('--why', '--command')
-    words = shlex.split(out.decode())
+    words = shlex.split(os.fsdecode(out))
     same('the command', (status, words[-1], said, made.times_asked('show_why')), (0, made.why_program, '', 1))
     same('the command, run', run(words, contents(SWITCH))[:2], (0, SWITCH_WHY))
-    builds_one(made, ['--why', SWITCH], SWITCH_WHY, WHY_PROGRAM, made.why_program)
+    builds_one(made, ['--why', SWITCH], SWITCH_WHY, made.why_program)
 
 
 def names_text(folder):
@@ -762,15 +592,10 @@ def names_text(folder):
 
 def names_output(folder):
     lost_output([NAMES, RELEASE + '.txt'], environments()[0], folder)
-    for words in (['--nonsense'], ['a', 'b'], ['-'], ['--help', 'a'], ['no such file'], [TOP], ['']):
+    for words in (['--nonsense'], ['a', 'b'], ['no such file'], [TOP], ['']):
         status, out, said = run([NAMES] + words, cwd=folder)
         same(f'{words}: status and output', (status, out), (2, b''))
         message(str(words), said)
-    status, out, said = run([NAMES, '--help'])
-    same('--help', (status, out[:6], said), (0, b'usage:', ''))
-
-
-TEXT = b'bounds 10 30\nsequence ?0\nallow !1\n'
 
 
 def pack_output(folder):
@@ -789,16 +614,14 @@ def pack_output(folder):
             packer.stdout.close()
             same('status when the reader goes', packer.wait(PATIENCE), 2)
             message('a reader that goes', packer.stderr.read().decode(), 'not everything could be written')
-    for words in ([PACK, '--nonsense'], [PACK, 'a', 'b'], [PACK, '--origin'], [PACK, '--origin', 'x'], [UNPACK, '-'], [UNPACK, 'a', 'b'],
+    for words in ([PACK, '--nonsense'], [PACK, 'a', 'b'], [PACK, '--origin'], [PACK, '--origin', 'x'], [UNPACK, 'a', 'b'],
+                  [PACK, '--origin', '1', '--origin', '1'], [PACK, '--origin', '-1'], [PACK, '--prop'], [UNPACK, '--tr'],
                   [PACK, 'no such file'], [UNPACK, 'no such file'], [PACK, TOP], [UNPACK, TOP], [PACK, '--property', '--trace'],
                   [UNPACK, '--property', '--trace'], [UNPACK, '--tap', '--trace', '--property'], [UNPACK, '--tap', 'a', 'b'],
                   [UNPACK, '--tap', '--nonsense'], [PACK, '--tap', '--nonsense'], [PACK, '--tap', 'a', 'b']):
         status, out, said = run(words, cwd=folder)
         same(f'{words}: status and output', (status, out), (2, b''))
         message(str(words), said)
-    for words in ([PACK, '--help'], [UNPACK, '--help']):
-        status, out, said = run(words)
-        same(f'{words}', (status, out[:6], said), (0, b'usage:', ''))
 
 
 def pack_text(folder):
@@ -810,11 +633,12 @@ def pack_text(folder):
     late = TEXT + b'?0 @%d\n!2 @%d\n' % (day + 100, day + 161)
     for more, packed in (([], want), (['--follow'], want), (['--follow', '--tap'], card)):
         for what, words, text in (('plain', [], plain), ('a byte-order mark', [], MARK + plain), ('CRLF', [], plain.replace(b'\n', b'\r\n')),
-                                  ('both', [], MARK + plain.replace(b'\n', b'\r\n')), ('no line end at the end', [], plain[:-1]),
+                                  ('both', [], MARK + plain.replace(b'\n', b'\r\n')),
                                   ('an origin', [], b'origin %d\n' % day + late), ('--origin', ['--origin', str(day)], late),
                                   ('an origin behind the property', [], late.replace(b'?0 @', b'origin %d\n?0 @' % day)),
                                   ('origin 0', ['--origin', '0'], plain), ('an end', [], plain + b'end\n')):
             same(f'{what} {more}', run([PACK] + words + more, text), (0, packed, ''))
+    same('no line end at the end', run([PACK], plain[:-1]), (0, want, ''))
     same('--property', run([PACK, '--property'], plain), (0, form, ''))
     same('--trace', run([PACK, '--trace'], plain), (0, want[len(form):], ''))
     same('--trace without a property', run([PACK, '--trace', '--origin', '5'], b'?0 @105\n'),
@@ -1114,23 +938,11 @@ PARTS = [listing_status, listing_long, listing_lost_output, listing_slow_reader,
 
 
 def main(names):
-    unknown = set(names) - {part.__name__ for part in PARTS}
-    if unknown:
-        sys.exit(f'tools: there is no part {", ".join(sorted(unknown))}')
     # builds the programs if they are not there
+    logs.named_command()
     for words in ([], ['--tap'], ['--why']):
-        subprocess.run([LISTING, *words, '--command'], stdout=subprocess.DEVNULL, check=True)
-    if subprocess.run([LISTING, '--names', os.devnull, os.devnull, os.devnull], stdout=subprocess.DEVNULL).returncode != 1:
-        sys.exit('tools: there is no program that lists with names')
-    for part in PARTS:
-        if names and part.__name__ not in names:
-            continue
-        try:
-            with tempfile.TemporaryDirectory() as folder:
-                part(folder)
-        except (Wrong, subprocess.TimeoutExpired) as wrong:
-            sys.exit(f'tools: FAILED: {part.__name__}: {wrong}')
-    print(f'tools: {len(names or PARTS)} parts as expected: ' + ', '.join(names or [part.__name__ for part in PARTS]))
+        logs.listing_command(*words)
+    run_parts('tools', PARTS, names)
 
 
 main(sys.argv[1:])

@@ -10,6 +10,10 @@ kit=''
 emulator=''
 if [ "$(uname -m)" != x86_64 ] || [ -n "${C_BY_KIT:-}" ] || ! command -v cc >/dev/null; then
     kit=$(rt doc) || { echo "$0: no C compiler for x86-64, and no rt to find the kit by" >&2; exit 2; }
+    case $kit in
+    /*) ;;
+    *) echo "$0: rt doc says '$kit', which is no absolute path" >&2; exit 2 ;;
+    esac
     kit=$(dirname "$(dirname "$kit")")
     own=$kit/on/$(uname -m)
     tools=$own/toolchain

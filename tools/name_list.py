@@ -3,7 +3,7 @@
 import io
 import re
 
-from shared import BYTE_ORDER_MARK, Bad, action, read_text
+from shared import BYTE_ORDER_MARK, Bad, action, read_text, words_of
 
 LONGEST_LIST = 8192  # bytes
 LONGEST_NAME = 40  # bytes
@@ -13,19 +13,15 @@ ZERO_BIT = 64  # of an entry's first byte
 
 def entry(line):
     """The first byte and the name that a line gives, None where it gives none."""
-    for end in (b'\n', b'\r'):
-        if line.endswith(end):
-            line = line[:-1]
-    words = [word for word in re.split(b'[ \t]', line) if word]
-    if not words or words[0].startswith(b'#'):
+    words = words_of(line)
+    if not words or words[0].startswith('#'):
         return None
-    shown = words[0].decode('utf-8', 'replace')
-    kind, k = action(shown)
+    kind, k = action(words[0])
     if len(words) == 1:
-        raise Bad(f'there is no name behind {shown}')
-    name = words[1]
-    if len(words) > 2 and not words[2].startswith(b'#'):
+        raise Bad(f'there is no name behind {"?!"[kind]}{k}')
+    if len(words) > 2 and not words[2].startswith('#'):
         raise Bad('a name is one word, and only a comment may follow it')
+    name = words[1].encode('utf-8', 'surrogateescape')
     for byte in name:
         if not LOWEST <= byte <= HIGHEST:
             raise Bad(f'the bytes of a name are from {LOWEST} to {HIGHEST}, and this name has a byte {byte}')
@@ -34,7 +30,7 @@ def entry(line):
     return kind << 7 | k, name
 
 
-def packed(file):
+def packed(lines):
     """The packed list of a text."""
     names = {}
 
@@ -46,7 +42,7 @@ def packed(file):
         if first in names:
             raise Bad(f'{"?!"[first >> 7]}{first & 63} stands twice: it has the name {names[first].decode()} already')
         names[first] = name
-    read_text(file, take)
+    read_text(lines, take)
     return b''.join(bytes([first, len(names[first])]) + names[first] for first in sorted(names))
 
 

@@ -1,9 +1,9 @@
 # The packed property, as unpack and listing read it.
 
-from shared import HIGHEST_BOUND, LONGEST
+from shared import HIGHEST_BOUND, LONGEST, Bad
 
 
-class Damaged(Exception):
+class Damaged(Bad):
     """What is wrong with the bytes."""
 
 
