@@ -8,16 +8,19 @@
  *   target/judge target/property target/trace
  *
  * Prints one line, 'refusal R verdict WORD count N'. The word is 'none' after a refusal, since
- * what was refused has not been found clear.
+ * what was refused has not been found clear. Status: 0 after a verdict, 1 after a refusal, 2 where a
+ * file could not be read or the line not be written, with a message.
  */
 #include "anthegyra.h"
 
+#include <errno.h>
 #include <stdio.h>
 #include <stdlib.h>
+#include <string.h>
 
-static void give_up(const char *why)
+static void give_up(const char *what, const char *why)
 {
-    fprintf(stderr, "judge: %s\n", why);
+    fprintf(stderr, "judge: %s: %s\n", what, why);
     exit(2);
 }
 
@@ -27,15 +30,15 @@ static uint8_t *bytes_of(const char *name, size_t *len)
     uint8_t *bytes = NULL;
     size_t got;
     FILE *file = fopen(name, "rb");
-    if (!file) give_up("a file cannot be opened");
+    if (!file) give_up(name, strerror(errno));
     *len = 0;
     do {
         bytes = realloc(bytes, *len + 65536);
-        if (!bytes) give_up("no memory");
+        if (!bytes) give_up(name, "no memory for it");
         got = fread(bytes + *len, 1, 65536, file);
         *len += got;
     } while (got > 0);
-    if (ferror(file)) give_up("a file cannot be read");
+    if (ferror(file)) give_up(name, strerror(errno));
     fclose(file);
     return bytes;
 }
@@ -46,15 +49,18 @@ int main(int argc, char **argv)
                                         [ANTHEGYRA_SUSPECT] = "suspect",
                                         [ANTHEGYRA_CERTAIN] = "certain",
                                         [ANTHEGYRA_BLIND] = "blind"};
-    if (argc != 3) give_up("usage: judge PROPERTY TRACE");
+    if (argc != 3) give_up("usage", "judge PROPERTY TRACE");
+    if (anthegyra_version() != ANTHEGYRA_VERSION) give_up("libstretch.a", "another version than the header");
     size_t property_len, trace_len;
     uint8_t *property = bytes_of(argv[1], &property_len);
     uint8_t *trace = bytes_of(argv[2], &trace_len);
     uint64_t n = anthegyra_stretch_judge(property, property_len, trace, trace_len);
     unsigned refusal = anthegyra_refusal(n);
-    printf("refusal %u verdict %s count %u\n", refusal,
-           refusal == ANTHEGYRA_TAKEN ? words[anthegyra_verdict(n)] : "none", anthegyra_count(n));
+    int printed = printf("refusal %u verdict %s count %u\n", refusal,
+                         refusal == ANTHEGYRA_TAKEN ? words[anthegyra_verdict(n)] : "none", anthegyra_count(n));
     free(property);
     free(trace);
-    return 0;
+    /* a full disk may be seen only when what was printed is written, or when the file is closed */
+    if (printed < 0 || fclose(stdout)) give_up("standard output", strerror(errno));
+    return refusal == ANTHEGYRA_TAKEN ? 0 : 1;
 }

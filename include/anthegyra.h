@@ -1,5 +1,6 @@
 /*
- * Anthegyra's stretch judge, for a C or C++ program. Link libstretch.a (x86-64) beside yours.
+ * Anthegyra's stretch judge, for a program in C99 or later, or in C++11 or later. Link libstretch.a
+ * (x86-64) beside yours.
  *
  * A property is: after this sequence the next answer may only be one of these, whatever requests come
  * in between. A stretch is one packed property and one packed trace, each whole and alone in its slice:
@@ -41,10 +42,11 @@
 #include <stddef.h>
 #include <stdint.h>
 
-/* One more whenever the call, its numbers or what they mean, a name here or a packed form changes. Since
-   2 a message on its way to the node does not end what the sequence began; since 3 the 6 bits of action of
-   a gap mark are the number of lost lines, and none of them is refused. */
-#define ANTHEGYRA_VERSION 3
+/* One more whenever a call, its numbers or what they mean, a name here or a packed form changes. Since 2
+   a message on its way to the node does not end what the sequence began; since 3 the 6 bits of action of
+   a gap mark are the number of lost lines, and none of them is refused; since 4 the archive says its
+   version, and in C++ the helpers are inline functions like any other. */
+#define ANTHEGYRA_VERSION 4
 
 /* What the orders of events at the node that fit the stamps have in common. */
 enum anthegyra_verdict_number {
@@ -77,12 +79,24 @@ extern "C" {
 uint64_t anthegyra_stretch_judge(const uint8_t *property, size_t property_len,
                                  const uint8_t *trace, size_t trace_len);
 
-static inline unsigned anthegyra_refusal(uint64_t n) { return (unsigned)(n / 65536); }
-static inline unsigned anthegyra_verdict(uint64_t n) { return (unsigned)(n / 16384 % 4); }
-static inline unsigned anthegyra_count(uint64_t n) { return (unsigned)(n % 16384); }
+/* The version of the archive that was linked: ANTHEGYRA_VERSION of the header that goes with it. */
+uint64_t anthegyra_version(void);
 
 #ifdef __cplusplus
 }
 #endif
+
+/* In C each file has its own. In C++ all files have one, so that other inline functions may use it. */
+#ifdef __cplusplus
+#define ANTHEGYRA_INLINE inline
+#else
+#define ANTHEGYRA_INLINE static inline
+#endif
+
+ANTHEGYRA_INLINE unsigned anthegyra_refusal(uint64_t n) { return (unsigned)(n / 65536); }
+ANTHEGYRA_INLINE unsigned anthegyra_verdict(uint64_t n) { return (unsigned)(n / 16384 % 4); }
+ANTHEGYRA_INLINE unsigned anthegyra_count(uint64_t n) { return (unsigned)(n % 16384); }
+
+#undef ANTHEGYRA_INLINE
 
 #endif

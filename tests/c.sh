@@ -3,9 +3,10 @@
 #
 #   tests/c.sh ARCHIVE FOLDER        as: tests/c.sh target/staticlib/libstretch.a target/c
 #
-# ORDERS and DAMAGED are the numbers of random inputs, 20000 each unless set, and SEED their generator's first number. The header
-# is shown to the C++ compiler in CXX, c++ unless set.
+# ORDERS and DAMAGED are the numbers of random inputs, 20000 each unless set, and SEED their generator's first number. The compiler for
+# C++ is the one in CXX, c++ unless set.
 set -u
+unset CDPATH # or cd may go elsewhere, and print where
 
 [ $# -eq 2 ] || { echo "usage: tests/c.sh ARCHIVE FOLDER" >&2; exit 2; }
 [ -f "$1" ] || { echo "c.sh: there is no archive $1" >&2; exit 2; }
@@ -20,6 +21,12 @@ good() { printf 'c: %s\n' "$*"; }
 bad() { printf 'c: FAILED: %s\n' "$*"; status=1; }
 
 . "$top/tests/x86.sh"
+
+# ---- what the tests below go by, line by line: without a line they would pass
+
+for name in samples.expected pack.refused edges.expected; do
+    [ -s "$top/tests/$name" ] || bad "tests/$name is empty"
+done
 
 # ---- the packing script, and the samples that it packed
 
@@ -62,18 +69,19 @@ else
     bad pack
 fi
 
-# ---- the header, as C++ reads it: included, since a compiler may warn of unused functions in a main file
+# ---- the header: by itself in C99 and no later C, and linked in C++
 
-cxx=${CXX:-c++}
-if command -v "$cxx" >/dev/null; then
-    printf '#include "anthegyra.h"\n' >"$build/header.cpp"
-    if "$cxx" -std=c++11 -O2 -Wall -Wextra -Werror -pedantic -fsyntax-only -I "$top/include" "$build/header.cpp"; then
-        good "header: taken by C++"
-    else
-        bad "header: not taken by C++"
-    fi
+printf '#include "anthegyra.h"\n#include "anthegyra.h"\nint main(void) { return (int)anthegyra_count(anthegyra_version() * 0); }\n' >"$build/header.c"
+if compile "$archive" "$build/header.c" "$build/header" -pedantic-errors -Werror && run "$build/header"; then
+    good "header: taken by C99"
 else
+    bad "header: not taken by C99"
+fi
+
+if [ -z "$kit" ] && ! command -v "$cxx" >/dev/null; then
     good "header: not shown to C++, there is no $cxx"
+elif ! compile_twice "$archive" "$top/tests/header.cpp" "$build/header++" -pedantic-errors -Werror || ! run "$build/header++"; then
+    bad "header: not taken by C++"
 fi
 
 # ---- the programs
@@ -83,6 +91,12 @@ if compile "$archive" "$top/tests/edges.c" "$build/edges" -Werror && run "$build
     good "edges: as expected"
 else
     bad edges
+fi
+
+if compile "$archive" "$top/tests/stack.c" "$build/stack" -Werror; then
+    run "$build/stack" 1000 "$seed" || bad stack
+else
+    bad "stack: not built"
 fi
 
 if compile "$archive" "$top/tests/orders.c" "$build/orders" -Werror; then
@@ -97,18 +111,43 @@ else
     bad "damaged: not built"
 fi
 
+# ---- the example: each sample, whose status is 0 after a verdict and 1 after a refusal; and what cannot be read or written
+
+judge() { # STATUS MESSAGE PROPERTY TRACE
+    want=$1
+    told=$2
+    shift 2
+    run "$build/judge" "$@" </dev/null 2>"$build/judge.err"
+    got=$?
+    [ "$got" -eq "$want" ] && [ "$(cat "$build/judge.err")" = "$told" ] && return
+    echo "judge $*: status $got, expected $want; its message:" >&2
+    cat "$build/judge.err" >&2
+    return 1
+}
+
 judge_samples() {
-    while read -r name _; do
+    while read -r name line; do
         pack --property "$top/samples/$name.txt" >"$build/property" || return 1
         pack --trace "$top/samples/$name.txt" >"$build/trace" || return 1
         printf '%s ' "$name"
-        run "$build/judge" "$build/property" "$build/trace" </dev/null || return 1
+        case $line in
+        'refusal 0 '*) judge 0 '' "$build/property" "$build/trace" || return 1 ;;
+        *) judge 1 '' "$build/property" "$build/trace" || return 1 ;;
+        esac
     done <"$top/tests/samples.expected"
 }
 
+judge_gives_up() {
+    judge 2 'judge: usage: judge PROPERTY TRACE' "$build/property" &&
+        judge 2 "judge: $build/nothing: No such file or directory" "$build/property" "$build/nothing" &&
+        judge 2 "judge: $build: Is a directory" "$build" "$build/trace" &&
+        judge 2 'judge: standard output: No space left on device' "$build/property" "$build/trace" >/dev/full &&
+        judge 2 'judge: standard output: Bad file descriptor' "$build/property" "$build/trace" >&-
+}
+
 if compile "$archive" "$top/examples/judge.c" "$build/judge" -Werror && judge_samples >"$build/samples.out" &&
-    cmp "$build/samples.out" "$top/tests/samples.expected"; then
-    good "judge: the samples are judged as expected"
+    cmp "$build/samples.out" "$top/tests/samples.expected" && judge_gives_up; then
+    good "judge: the samples are judged as expected, and what cannot be read or written is told"
 else
     bad "judge: the example and its samples"
 fi

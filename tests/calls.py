@@ -10,6 +10,7 @@ matter; so are orders and moments. Packed forms, held stamps, counts, latest sta
 tests/rules.py, by one step over cuts and in short runs also by listing every order of the run. A refused call must leave its
 other numbers 0, and its session, buffer or lists as they were."""
 import os
+import re
 import shlex
 import subprocess
 import sys
@@ -19,6 +20,8 @@ import rules  # noqa: E402
 from rules import END_RECORD as END, LIMIT, TAP_END, TURN, pack_record as rec, pack_tap as tap  # noqa: E402
 
 TOP = os.path.dirname(os.path.dirname(os.path.abspath(__file__)))
+with open(os.path.join(TOP, "include", "anthegyra.h"), encoding="ascii") as _header:
+    VERSION = int(re.search("(?m)^#define ANTHEGYRA_VERSION ([0-9]+)$", _header.read())[1])
 HUGE = 2 ** 64 - 1
 LAST = 2 ** 32 - 1  # of the tap card's counter
 
@@ -323,6 +326,12 @@ def J(p, t, refusal=0, verdict=0, taken=0):
     number = 9 * 65536 if taken > 16383 else refusal * 65536 + verdict * 16384 + taken
     count("J", 9 if taken > 16383 else refusal)
     add("J", string(p) + string(t), lambda c: same("the answer", c.answer("J"), [str(v) for v in (refusal, verdict, taken, number)]))
+
+
+def version():
+    """The number that the header has. Nothing is read behind the letter."""
+    count("v", 0)
+    add("v", b"", lambda c: same("the answer", c.answer("v"), [str(VERSION)]))
 
 
 def P(b, want=0, p=NONE):
@@ -1044,6 +1053,9 @@ def property_reader():
 
 
 def judge():
+    title("the interface for C")
+    version()
+    version()
     title("the judge: the property first")
     b = packed(B)
     run = trace(("?0", 100), ("!2", 161))
@@ -1241,7 +1253,7 @@ def check(text):
             if wrong == 10 or not isinstance(error, Wrong):
                 return False
             # to the next answer
-            letters = set("FLGWJPQRSVTNKY?")
+            letters = set("FLGWJPQRSVTNKYv?")
             while c.at < len(c.lines) and c.lines[c.at][:2].strip() not in letters:
                 c.at += 1
     if c.lines[c.at:] != [""]:
@@ -1277,7 +1289,7 @@ def main():
                 sys.exit(1)
     calls = [call for call in CALLS if call[0]]
     print("calls: %d calls in %d bytes answered as expected:" % (len(calls), len(script)))
-    for name in "FLGWJPQRSVTNKY":
+    for name in "FLGWJPQRSVTNKYv":
         print("  %s %s" % (name, ", ".join("%s %d" % ("taken" if want == 0 else "refusal %d" % want, n)
                                            for (of, want), n in sorted(kv for kv in COUNTS.items() if kv[0][0] == name))))
     print("  sessions held against all orders of their run: %d" % LISTED[0])

@@ -1,7 +1,7 @@
 /*
  * The edges of the C call itself: slices that are empty or null, the shortest traces, one trace for
- * each verdict, the longest count, and what the header says of gaps and of cutting a long log. Prints
- * each number taken apart; edges.expected has the whole.
+ * each verdict, the longest count, what the header says of gaps and of cutting a long log, and the
+ * archive's version. Prints each number taken apart; edges.expected has the whole.
  */
 #include "anthegyra.h"
 #include "common.h"
@@ -32,9 +32,10 @@ static void show_outputs(const char *what, size_t n)
 
 static void use_property(const struct property *p) { property_len = pack_property(p, property); }
 
-/* The names that the header gives to the numbers. */
+/* The names that the header gives to the numbers, and whose archive this is. */
 static void show_names(void)
 {
+    printf("version: %s\n", anthegyra_version() == ANTHEGYRA_VERSION ? "the header's" : "another than the header's");
     printf("verdicts: %d %d %d %d\n", ANTHEGYRA_CLEAR, ANTHEGYRA_SUSPECT, ANTHEGYRA_CERTAIN,
            ANTHEGYRA_BLIND);
     printf("refusals: %d %d %d %d %d %d %d %d %d %d %d\n", ANTHEGYRA_TAKEN, ANTHEGYRA_LENGTH,

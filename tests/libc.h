@@ -1,5 +1,5 @@
 /*
- * The few declarations of x86-64 Linux's C library that the C programs here use. The kit's compiler
+ * The few declarations of x86-64 Linux's C library that the programs here use. The kit's compiler
  * comes without headers, and the headers of an Arm machine describe another processor: x86.sh puts
  * this file in the place of each standard header where it builds with the kit.
  */
@@ -12,10 +12,15 @@ typedef unsigned long uint64_t;
 typedef unsigned long size_t;
 typedef struct _IO_FILE FILE;
 
+#ifdef __cplusplus
+#define NULL 0
+extern "C" {
+#else
 #define NULL ((void *)0)
+#endif
 #define INT64_MIN (-9223372036854775807L - 1)
 
-extern FILE *stderr;
+extern FILE *stdout, *stderr;
 int printf(const char *format, ...) __attribute__((format(printf, 1, 2)));
 int fprintf(FILE *file, const char *format, ...) __attribute__((format(printf, 2, 3)));
 FILE *fopen(const char *name, const char *mode);
@@ -40,5 +45,13 @@ unsigned long long strtoull(const char *text, char **rest, int base);
 void *memset(void *to, int byte, size_t size);
 void *memcpy(void *to, const void *from, size_t size);
 int memcmp(const void *a, const void *b, size_t size);
+
+char *strerror(int number);
+int *__errno_location(void);
+#define errno (*__errno_location())
+
+#ifdef __cplusplus
+}
+#endif
 
 #endif

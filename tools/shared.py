@@ -4,7 +4,7 @@ import re
 
 from streams import Stopped, shown
 
-VERSION = 3  # ANTHEGYRA_VERSION of include/anthegyra.h
+VERSION = 4  # ANTHEGYRA_VERSION of include/anthegyra.h
 LONGEST = 32
 HIGHEST_ACTION = 63
 MOST_LOST = 63  # of a gap's number of lost lines: more, or unknown

@@ -133,6 +133,12 @@ fn name_of(args: &[u8], s: Session) -> Answer {
     answer::with_bytes(told, names::name(site, release, output, action))
 }
 
+// The number of the interface for C. The call has no arguments.
+fn version(args: &[u8], s: Session) -> Answer {
+    let numbers = [stretch::anthegyra_version(), 0, 0, 0, 0, 0];
+    answer::told(b'v', 1, numbers, args, s)
+}
+
 // No call has this name: nothing behind it is read.
 fn unknown(name: u8, args: &[u8], s: Session) -> Answer {
     let numbers = [fields::wide(name), 0, 0, 0, 0, 0];
@@ -150,6 +156,7 @@ pub fn call(name: u8, args: &[u8], s: Session) -> Answer {
         b'R' => read_record(args, s),
         b'S' => write_record(args, s),
         b'V' => refused(args, s),
+        b'v' => version(args, s),
         _ => unknown(name, args, s),
     }
 }

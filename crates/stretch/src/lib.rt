@@ -5,6 +5,7 @@ ghost use Rattle.property.specs.Meant.{meant};
 ghost use Rattle.session_record.specs.Step.{standing};
 ghost use Rattle.session_record.specs.Lent.{memory, record-in, Ready};
 ghost use Rattle.stretch.specs.Judge.{refused, trace-judged, judge-of, one-number};
+ghost use Rattle.stretch.specs.Version.{interface-version};
 use held::Status;
 use property::Property;
 use rows::Words;
@@ -12,6 +13,9 @@ use walk::Stop;
 
 // "the count at most 16,383"
 const MOST_COUNTED: usize = 16383;
+
+// ANTHEGYRA_VERSION of include/anthegyra.h.
+const VERSION: u64 = 4;
 
 // Verdict and number of records taken, or the refusal alone.
 pub struct Judged {
@@ -97,4 +101,12 @@ pub extern "C" fn anthegyra_stretch_judge(property: &[u8], trace: &[u8]) -> u64
         return 9 * 65536;
     }
     judged.refusal * 65536 + judged.verdict * 16384 + (judged.count as u64)
+}
+
+// Which header this archive goes with.
+#[no_mangle]
+pub extern "C" fn anthegyra_version() -> u64
+    ensures { λ r. ⌜ r ≡ interface-version ⌝ }
+{
+    VERSION
 }
