@@ -241,6 +241,8 @@ def alone(name, part, limit):
 
 
 def ended(number, _):
+    for other in HEEDED:
+        signal.signal(other, signal.SIG_IGN)  # one is enough
     sys.exit(128 + number)
 
 

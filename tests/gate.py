@@ -1,6 +1,7 @@
 #!/usr/bin/env python3
 """.ci/run, in folders of stand-ins for rt and for the tests: its last line is 'N passed, 0 failed' only where rt ci and every test
-passed, and is nowhere in what it prints where one of them failed, was killed, or the script itself was.
+passed, and is nowhere in what it prints where one of them failed, was killed, or the script itself was. What it started is gone when it
+ends: where one stream of tests has failed, a test hangs, or a signal comes.
 
     tests/gate.py     exits 1 at the first path that ends otherwise"""
 import os
@@ -10,6 +11,7 @@ import subprocess
 import sys
 import tempfile
 import time
+import traceback
 
 TOP = os.path.dirname(os.path.dirname(os.path.abspath(__file__)))
 PATIENCE = 60  # seconds for what takes a part of one
@@ -28,10 +30,7 @@ def script_of(path, lines):
     os.chmod(path, 0o755)
 
 
-def heeded():
-    """In the gate's own process: a shell has its background jobs ignore SIGINT, and this may be one of them."""
-    for number in (signal.SIGTERM, signal.SIGINT):
-        signal.signal(number, signal.SIG_DFL)
+ENDING = signal.SIGTERM, signal.SIGINT, signal.SIGHUP
 
 
 class Stand:
@@ -50,7 +49,8 @@ class Stand:
         os.chmod(self.gate, 0o755)
         with open(os.path.join(top, 'docs', 'TRUST.md'), 'w', encoding='utf-8') as trust:
             trust.write(f'`{KIT}`\n')
-        self.tests = sorted(set(re.findall(r'\btests/[a-z0-9_]+\.(?:py|sh)', text)))
+        self.streams = [re.findall(r'\btests/[a-z0-9_]+\.(?:py|sh)', stream) for stream in re.findall(r'(?ms)^[a-z]+_stream\(\) \{$.*?^}$', text)]
+        self.tests = sorted(sum(self.streams, []))
         for name in self.tests:
             self.test(name)
         self.rt()
@@ -65,20 +65,43 @@ class Stand:
             'case "$1" in', f'version) echo {KIT} ;;', f'fmt) exit {fmt} ;;',
             f'staticlib) echo "rt: target/staticlib/libstretch.a"; exit {archive} ;;', 'ci)', *proving, ';;', 'esac'])
 
-    def start(self):
-        path = os.path.join(self.top, 'bin') + os.pathsep + os.environ['PATH']
-        return subprocess.Popen([self.gate], env=dict(os.environ, PATH=path), stdin=subprocess.DEVNULL, stdout=subprocess.PIPE,
-                                stderr=subprocess.STDOUT, text=True, preexec_fn=heeded)
+    def waits(self, name):
+        """A test, or rt, that waits until it is ended, or for half of our patience. It leaves its number."""
+        return [f'echo $$ >{name}.begun', 'i=0', f'while [ $i -lt {PATIENCE * 10} ]; do sleep 0.05; i=$((i + 1)); done', f'touch {name}.done']
 
-    def run(self):
-        with self.start() as gate:
-            return gate.communicate(timeout=PATIENCE)[0], gate.returncode
+    def start(self, words=None, cwd=None, **more):
+        path = os.path.join(self.top, 'bin') + os.pathsep + os.environ['PATH']
+        return subprocess.Popen(words or [self.gate], env=dict(os.environ, PATH=path, **more), cwd=cwd, stdin=subprocess.DEVNULL,
+                                stdout=subprocess.PIPE, stderr=subprocess.STDOUT, text=True)
+
+    def run(self, *words, **more):
+        with self.start(*words, **more) as gate:
+            try:
+                return gate.communicate(timeout=PATIENCE)[0], gate.returncode
+            except subprocess.TimeoutExpired:
+                gate.kill()
+                wrong(f'the gate does not end; the tests that ran are {self.ran()}', '')
+
+    def begun(self, name):
+        """The number that one left which waits, or None."""
+        try:
+            with open(os.path.join(self.top, f'{name}.begun'), encoding='utf-8') as number:
+                return int(number.read() or 0) or None
+        except FileNotFoundError:
+            return None
+
+    def was_ended(self, what, name):
+        """What waits, before it was done."""
+        while not is_over(self.begun(name)):
+            time.sleep(0.01)
+        if os.path.exists(os.path.join(self.top, f'{name}.done')):
+            wrong(f'{what}: {name} went on', '')
 
     def wait_for(self, name):
         until = time.monotonic() + PATIENCE
-        while not os.path.exists(os.path.join(self.top, name)):
+        while self.begun(name) is None:
             if until < time.monotonic():
-                wrong(f'{name} was not made', '')
+                wrong(f'{name} was not begun', '')
             time.sleep(0.01)
 
     def ran(self):
@@ -87,6 +110,15 @@ class Stand:
                 return sorted(names.read().split())
         except FileNotFoundError:
             return []
+
+
+def is_over(number):
+    """A process that has ended and that nobody has asked for its status."""
+    try:
+        with open(f'/proc/{number}/stat', encoding='utf-8', errors='replace') as stat:
+            return stat.read().rsplit(')', 1)[1].split()[0] == 'Z'
+    except OSError:
+        return True
 
 
 def programs():
@@ -114,34 +146,85 @@ def passes():
             wrong('another kit is not told', output)
 
 
-def fails(what, change, all_tests, nowhere=True, said=''):
-    """The last line says so, PASSED is nowhere, and `said` is there."""
+def fails(what, change, stream=None, said='', nowhere=True):
+    """The last line says so, `said` is there, and PASSED is nowhere. All tests of the stream ran, none where none is named."""
     with tempfile.TemporaryDirectory() as top:
         stand = Stand(top)
         change(stand)
         output, status = stand.run()
         if status == 0 or nowhere and NEVER.search(output) or 'gate: FAILED' not in output.splitlines()[-1] or said not in output:
             wrong(f'{what}: status {status}', output)
-        if stand.ran() != (stand.tests if all_tests else []):
+        if stream is None and stand.ran() or stream is not None and not set(stream) <= set(stand.ran()):
             wrong(f'{what}: the tests that ran are {stand.ran()}', output)
 
 
-def killed(number):
-    """The script itself, while a test of each stream is still at work and rt ci has passed."""
+def ends_the_other(failing, other, *first):
+    """Where a test of one stream fails, a test of the other that is still at work is ended, whatever it does `first`."""
     with tempfile.TemporaryDirectory() as top:
         stand = Stand(top)
-        for name in ('tests/tools.py', 'tests/calls.py'):
-            stand.test(name, [f'touch {os.path.basename(name)}.begun', 'while [ ! -e done ]; do sleep 0.05; done'])
-        gate = stand.start()
-        stand.wait_for('tools.py.begun')
-        stand.wait_for('calls.py.begun')
-        gate.send_signal(number)
-        gate.wait(PATIENCE)
-        with open(os.path.join(top, 'done'), 'w', encoding='utf-8'):
-            pass
-        output = gate.communicate(timeout=PATIENCE)[0]
-        if gate.returncode == 0 or NEVER.search(output):
-            wrong(f'killed by {number}: status {gate.returncode}', output)
+        stand.test(other[0], [*first, *stand.waits('other')])
+        stand.test(failing[0], ['while [ ! -s other.begun ]; do sleep 0.02; done', 'exit 1'])
+        output, status = stand.run()
+        if status == 0 or NEVER.search(output) or 'the other stream was ended' not in output.splitlines()[-1]:
+            wrong(f'{failing[0]} fails: status {status}', output)
+        if not set(failing) <= set(stand.ran()) or set(other[1:]) & set(stand.ran()):
+            wrong(f'{failing[0]} fails: the tests that ran are {stand.ran()}', output)
+        stand.was_ended(f'{failing[0]} fails', 'other')
+
+
+def hangs():
+    """A test that does not end is ended, the others of its stream run, and it is told."""
+    with tempfile.TemporaryDirectory() as top:
+        stand = Stand(top)
+        name = stand.streams[1][0]
+        stand.test(name, stand.waits('hanging'))
+        output, status = stand.run(TEST_SECONDS='1')
+        if status == 0 or NEVER.search(output) or not re.search(f'(?m)^gate: FAILED: python3 {name}, ended after [0-9]+ s$', output):
+            wrong(f'{name} hangs: status {status}', output)
+        if not set(stand.streams[1]) <= set(stand.ran()):
+            wrong(f'{name} hangs: the tests that ran are {stand.ran()}', output)
+        stand.was_ended(f'{name} hangs', 'hanging')
+
+
+def killed(number):
+    """The script itself, while a test of each stream is still at work and rt ci has passed; and while rt ci is at work."""
+    with tempfile.TemporaryDirectory() as top:
+        stand = Stand(top)
+        begun = [stream[-1] for stream in stand.streams]
+        for name in begun:
+            stand.test(name, stand.waits(name))
+        ended(number, stand, begun)
+    if number != signal.SIGKILL:
+        with tempfile.TemporaryDirectory() as top:
+            stand = Stand(top)
+            stand.rt(['echo some crate', *stand.waits('rt')])
+            ended(number, stand, ['rt'])
+
+
+def ended(number, stand, begun):
+    gate = stand.start()
+    for name in begun:
+        stand.wait_for(name)
+    gate.send_signal(number)
+    gate.wait(PATIENCE)
+    # nothing can be done where the script is killed outright, so it is done here
+    for name in begun:
+        if number == signal.SIGKILL:
+            os.kill(stand.begun(name), signal.SIGKILL)
+        stand.was_ended(f'killed by {number}', name)
+    output = gate.communicate(timeout=PATIENCE)[0]
+    if gate.returncode == 0 or NEVER.search(output):
+        wrong(f'killed by {number}: status {gate.returncode}', output)
+
+
+def elsewhere():
+    """By a relative name, with a folder of that name among those that cd searches."""
+    with tempfile.TemporaryDirectory() as top, tempfile.TemporaryDirectory() as other:
+        stand = Stand(top)
+        os.makedirs(os.path.join(other, '.ci'))
+        output, status = stand.run(['.ci/run'], cwd=top, CDPATH=other)
+        if status != 0 or output.splitlines()[-1] != PASSED or stand.ran() != stand.tests:
+            wrong('with CDPATH', output)
 
 
 def as_it_comes():
@@ -160,30 +243,61 @@ def as_it_comes():
             wrong('lines as they come', output)
 
 
-def main():
-    passes()
-    as_it_comes()
+def cases():
+    """Each as a function and what it is called with."""
     with tempfile.TemporaryDirectory() as top:
-        tests = Stand(top).tests
-    for name in tests:
-        fails(f'{name} fails', lambda stand, name=name: stand.test(name, ['exit 1']), True)
-    fails('a test is killed', lambda stand: stand.test('tests/why.py', ['kill -9 $$']), True)
-    fails('two tests fail', lambda stand: [stand.test(name, ['exit 3']) for name in tests[:2]], True)
-    fails('the archive is not built', lambda stand: stand.rt(archive=1), True, said='libstretch.a')
-    fails('the layout is not that of rt fmt', lambda stand: stand.rt(fmt=1), False)
+        streams = Stand(top).streams
+    yield from ((passes,), (as_it_comes,), (elsewhere,), (ends_the_other, *streams), (ends_the_other, *streams[::-1]), (hangs,),
+                (ends_the_other, *streams, "trap '' TERM"))
+    yield from ((killed, number) for number in (signal.SIGKILL, *ENDING))
+    for stream in streams:
+        for name in stream:
+            yield fails, f'{name} fails', lambda stand, name=name: stand.test(name, ['exit 1']), stream
+        yield fails, 'a test is killed', lambda stand, stream=stream: stand.test(stream[0], ['kill -9 $$']), stream
+        yield fails, 'two tests fail', lambda stand, stream=stream: [stand.test(name, ['exit 3']) for name in stream[:2]], stream
+    yield fails, 'the archive is not built', lambda stand: stand.rt(archive=1), None, 'libstretch.a'
+    yield fails, 'the layout is not that of rt fmt', lambda stand: stand.rt(fmt=1)
     one_failed = '6 passed, 1 failed'
-    fails('a crate fails', lambda stand: stand.rt([f'echo {one_failed}', 'exit 1']), False, said=f'\n{one_failed}\n')
+    yield fails, 'a crate fails', lambda stand: stand.rt([f'echo {one_failed}', 'exit 1']), None, f'\n{one_failed}\n'
     for what, proving in (
             ('a crate fails, with status 0', [f'echo {one_failed}']),
             ('rt ci prints nothing', ['exit 0']),
             ('rt ci is killed', ['echo some crate', 'kill -9 $$']),
             ('rt ci is killed behind its last line', [f'echo {PASSED}', 'kill -9 $$']),
             ('rt ci fails behind its last line', [f'echo {PASSED}', 'exit 2'])):
-        fails(what, lambda stand, proving=proving: stand.rt(proving), False)
-    fails('rt ci goes on behind that line', lambda stand: stand.rt([f'echo {PASSED}', 'echo and more']), False, nowhere=False)
-    for number in (signal.SIGKILL, signal.SIGTERM, signal.SIGINT):
-        killed(number)
-    print(f'gate: {len(tests)} tests, each failing; rt ci failing or killed, the script killed: the last line is held back')
+        yield fails, what, lambda stand, proving=proving: stand.rt(proving)
+    yield fails, 'rt ci goes on behind that line', lambda stand: stand.rt([f'echo {PASSED}', 'echo and more']), None, '', False
+
+
+def share(these):
+    """Some of the cases, in a process of their own: most of them wait, so that several at a time take less."""
+    sys.stdout.flush()
+    process = os.fork()
+    if process:
+        return process
+    status = 1
+    try:
+        for case, *given in these:
+            case(*given)
+        status = 0
+    except SystemExit as why:
+        print(why)
+    except BaseException:
+        traceback.print_exc()
+    finally:
+        sys.stdout.flush()
+        os._exit(status)
+
+
+def main():
+    # a shell has its background jobs ignore SIGINT, and this may be one of them
+    for number in ENDING:
+        signal.signal(number, signal.SIG_DFL)
+    ways = list(cases())
+    if any([os.waitpid(process, 0)[1] for process in [share(ways[first::6]) for first in range(6)]]):
+        sys.exit(1)
+    print(f'gate: {len(ways)} ways: each test failing, one hanging, rt ci failing or killed, the script killed; the last line is held back, and '
+          'nothing goes on')
 
 
 main()
