@@ -91,10 +91,8 @@ class Stand:
             return None
 
     def was_ended(self, what, name):
-        """What waits, before it was done."""
-        while not is_over(self.begun(name)):
-            time.sleep(0.01)
-        if os.path.exists(os.path.join(self.top, f'{name}.done')):
+        """What waits, by now."""
+        if not is_over(self.begun(name)) or os.path.exists(os.path.join(self.top, f'{name}.done')):
             wrong(f'{what}: {name} went on', '')
 
     def wait_for(self, name):
@@ -207,11 +205,11 @@ def ended(number, stand, begun):
         stand.wait_for(name)
     gate.send_signal(number)
     gate.wait(PATIENCE)
-    # nothing can be done where the script is killed outright, so it is done here
     for name in begun:
         if number == signal.SIGKILL:
-            os.kill(stand.begun(name), signal.SIGKILL)
-        stand.was_ended(f'killed by {number}', name)
+            os.kill(stand.begun(name), signal.SIGKILL)  # here nothing else can do it
+        else:
+            stand.was_ended(f'killed by {number}', name)
     output = gate.communicate(timeout=PATIENCE)[0]
     if gate.returncode == 0 or NEVER.search(output):
         wrong(f'killed by {number}: status {gate.returncode}', output)
