@@ -74,9 +74,14 @@ class Stand:
         return subprocess.Popen(words or [self.gate], env=dict(os.environ, PATH=path, **more), cwd=cwd, stdin=subprocess.DEVNULL,
                                 stdout=subprocess.PIPE, stderr=subprocess.STDOUT, text=True)
 
-    def run(self, *words, **more):
+    def run(self, *words, ended=(), **more):
+        """Output and status of the gate, with which those that wait have been ended."""
         with self.start(*words, **more) as gate:
             try:
+                # not by its output, which whoever goes on has open too; that is short
+                gate.wait(PATIENCE)
+                for name in ended:
+                    self.was_ended('the gate has ended', name)
                 return gate.communicate(timeout=PATIENCE)[0], gate.returncode
             except subprocess.TimeoutExpired:
                 gate.kill()
@@ -162,12 +167,11 @@ def ends_the_other(failing, other, *first):
         stand = Stand(top)
         stand.test(other[0], [*first, *stand.waits('other')])
         stand.test(failing[0], ['while [ ! -s other.begun ]; do sleep 0.02; done', 'exit 1'])
-        output, status = stand.run()
+        output, status = stand.run(ended=['other'])
         if status == 0 or NEVER.search(output) or 'the other stream was ended' not in output.splitlines()[-1]:
             wrong(f'{failing[0]} fails: status {status}', output)
         if not set(failing) <= set(stand.ran()) or set(other[1:]) & set(stand.ran()):
             wrong(f'{failing[0]} fails: the tests that ran are {stand.ran()}', output)
-        stand.was_ended(f'{failing[0]} fails', 'other')
 
 
 def hangs():
@@ -176,12 +180,11 @@ def hangs():
         stand = Stand(top)
         name = stand.streams[1][0]
         stand.test(name, stand.waits('hanging'))
-        output, status = stand.run(TEST_SECONDS='1')
+        output, status = stand.run(ended=['hanging'], TEST_SECONDS='1')
         if status == 0 or NEVER.search(output) or not re.search(f'(?m)^gate: FAILED: python3 {name}, ended after [0-9]+ s$', output):
             wrong(f'{name} hangs: status {status}', output)
         if not set(stand.streams[1]) <= set(stand.ran()):
             wrong(f'{name} hangs: the tests that ran are {stand.ran()}', output)
-        stand.was_ended(f'{name} hangs', 'hanging')
 
 
 def killed(number):
