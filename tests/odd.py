@@ -4,11 +4,13 @@ environment, closed descriptors; and the tests themselves, optimised, failing, h
 not as docs/DECISIONS.md says.
 
     tests/odd.py [PART..]     all parts unless some are named"""
+import ast
 import contextlib
 import fcntl
 import os
 import re
 import shlex
+import shutil
 import signal
 import socket
 import subprocess
@@ -459,8 +461,224 @@ def closed_descriptors(folder):
             same(f'{tool} {how}', (got, out, 'Traceback' in said, said == ''), (status, b'', False, '2>' in how or status == 0))
 
 
+# ---- alike in every tool
+
+def header_version():
+    return re.search(b'(?m)^#define ANTHEGYRA_VERSION ([0-9]+)$', contents(os.path.join(TOP, 'include', 'anthegyra.h')))[1]
+
+
+def options_alike(folder):
+    """-h, --version, options behind the file, -- and -, also where Python leaves texts of the sources out."""
+    env = dict(os.environ, PYTHONOPTIMIZE='2')
+    for tool in TOOLS:
+        name = os.path.basename(tool)
+        for more in ({}, {'env': env}):
+            help_text = run([tool, '--help'], **more)
+            same(f'{name} --help', (help_text[0], help_text[1].split(b'\n')[0].split()[:2], help_text[2]), (0, [b'usage:', f'tools/{name}'.encode()], ''))
+            same(f'{name} -h', run([tool, '-h'], **more), help_text)
+            same(f'{name} --version', run([tool, '--version'], **more), (0, b'anthegyra ' + header_version() + b'\n', ''))
+            status, out, said = run([tool, '--nonsense'], **more)
+            same(f'{name} --nonsense: status and output', (status, out), (2, b''))
+            message(f'{name} --nonsense', said, f'usage: tools/{name}', 'unrecognized arguments: --nonsense')
+        with open('/dev/full', 'wb') as full:
+            same(f'{name} -h to a full device', run([tool, '-h'], stdout=full)[0], 2)
+    made = Folder(folder)
+    text, log = TEXT + b'?0 @100\n!2 @161\n', FORM + pack_record(INPUT, 0, 100) + pack_record(OUTPUT, 2, 61) + END_RECORD
+    card = FORM + pack_tap(INPUT, 0, 100) + pack_tap(OUTPUT, 2, 161) + TAP_END
+    listed, why = (HEADER + '1 I 0 100 clear 1\n2 O 2 161 certain 0\nend 2\n').encode(), b'certain 2\n1 110\n2 131\n'
+    names, packed = b'?0 a\n', rules.pack_names({(False, 0): b'a'})
+    unpacked = text + b'end\n'
+    for tool, options, data, want in ((PACK, [], text, log), (PACK, ['--tap'], text, card), (PACK, ['--trace', '--origin', '0'], text, log[len(FORM):]),
+                                      (UNPACK, [], log, unpacked), (UNPACK, ['--tap'], card, unpacked), (NAMES, [], names, packed),
+                                      (made.listing, [], log, listed), (made.listing, ['--tap'], card, listed), (made.listing, ['--why'], log, why)):
+        path = file_of(folder, '-x', data)
+        for words, given in ((options + [path], b''), ([path] + options, b''), (options + ['--', '-x'], b''), (options + ['./-x'], b''),
+                             (options, data), (options + ['-'], data), (['-'] + options, data)):
+            same(f'{tool} {words}', run([tool] + words, given, env=made.environment(), cwd=folder), (0, want, ''))
+
+
+def blanks_alike(folder):
+    """Spaces and tabs are blanks, in texts and in lists; nothing else is."""
+    for blank in (b' ', b'\t', b' \t  \t'):
+        words = [b'%sbounds', b'10', b'30\n', b'sequence', b'?0\n', b'allow', b'!1\n', b'?0', b'@', b'100', b'# c\n', b'gap', b'@200', b'lost', b'5', b'\n']
+        text = blank.join(words).replace(b'%s', blank).replace(b'\n' + blank, b'\n')
+        same(f'a text with {blank}', run([PACK], text), (0, FORM + pack_record(INPUT, 0, 100) + pack_record(GAP, 5, 100) + END_RECORD, ''))
+        same(f'a list with {blank}', run([NAMES], blank + b'?0' + blank + b'a' + blank + b'# c\n'), (0, rules.pack_names({(False, 0): b'a'}), ''))
+    others = [b'\x0b', b'\x0c', b'\x1c', b'\x1d', b'\x1e', b'\x1f', b'\x00', b'\r', b'\xc2\x85', b'\xc2\xa0', b'\xe1\x9a\x80', b'\xe2\x80\x83', b'\xe2\x80\xa8',
+              b'\xe2\x80\xaf', b'\xe3\x80\x80', b'\xef\xbb\xbf']
+    for other in others:
+        for words, text, line in (([PACK], TEXT + b'?0' + other + b'@100\n', 4), ([NAMES], b'!1 x\n?0' + other + b'a\n', 2)):
+            status, out, said = run(words, text)
+            same(f'{words} {text}: status and output', (status, out), (1, b''))
+            message(f'{words} {text}', said, f'line {line}: ')
+    for words, text in (([PACK], TEXT.replace(b' 10', b'\x0b10')), ([NAMES], b'?0 a\xc2\xa0\n'), ([NAMES], b'?0 a\r\r\n')):
+        status, out, said = run(words, text)
+        same(f'{words} {text}: status and output', (status, out), (1, b''))
+        message(f'{words} {text}', said, 'line 1: ')
+
+
+def unpacked_in_pieces(folder):
+    """The text of a long log is written in parts, and of none that is damaged at its end anything is. What is written at a time comes as one
+    packet, which cannot be longer than the socket's buffer."""
+    records = 40_000
+    data = FORM + b''.join(pack_record(k % 2, k % 64, k % 5) for k in range(records)) + END_RECORD
+    for log, want in ((data, 0), (data[:-1] + b'\1', 1)):
+        ours, theirs = socket.socketpair(socket.AF_UNIX, socket.SOCK_SEQPACKET)
+        with ours, started([UNPACK, file_of(folder, 'log', log)], stderr=subprocess.PIPE) as bystander, subprocess.Popen(
+                [UNPACK, os.path.join(folder, 'log')], stdout=theirs, stderr=subprocess.PIPE) as unpack:
+            theirs.close()
+            whole = bystander.communicate(timeout=PATIENCE)[0]
+            pieces = []
+            while True:
+                some = ours.recv(1 << 20)
+                if not some:
+                    break
+                pieces.append(some)
+            said = unpack.stderr.read().decode()
+            same('the status', (unpack.wait(SHORT), 'refusal 8' in said), (want, bool(want)))
+        same('the text', b''.join(pieces), whole)
+        same('the lines', whole.count(b'\n'), 0 if want else records + 4)
+        holds(f'{len(pieces)} pieces', want or len(pieces) > 5)
+
+
+# ---- the tests themselves
+
+PYTHON = ['tests', 'tools', 'bench']
+
+
+def optimised(folder):
+    """What a test finds out is found out by Python with its assertions switched off too."""
+    for place in PYTHON:
+        for name in sorted(os.listdir(os.path.join(TOP, place))):
+            source = contents(os.path.join(TOP, place, name))
+            if name.endswith('.py') or source.startswith(b'#!/usr/bin/env python3\n'):
+                for node in ast.walk(ast.parse(source)):
+                    holds(f'{place}/{name} has an assertion', not isinstance(node, ast.Assert))
+                    holds(f'{place}/{name} has a use for __doc__', not (isinstance(node, ast.Name) and node.id == '__doc__'))
+    wrong = {'a verdict': ('standing = lambda w: rules.CLEAR', 'listing'),
+             'the number open': ('MOST_OPEN = 64; rules.after_line = (lambda f: lambda *a: f(*a)._replace(held=[]))(rules.after_line)', 'listing'),
+             'the first orders': ('orders_stepped = lambda p, run: (None, None)', 'shown_why'),
+             'the orders of a verdict': ('standing = lambda w: rules.CLEAR', 'shown_why')}
+    for what, (change, called) in wrong.items():
+        code = f'import rules; rules.{change}; rules.{called}(open({os.path.join(TOP, "samples", "case11.bin")!r}, "rb").read())'
+        for level in ('', '1', '2'):
+            status, out, said = run([sys.executable, '-B', '-c', code], env=dict(os.environ, PYTHONOPTIMIZE=level, PYTHONPATH=os.path.join(TOP, 'tests')))
+            holds(f'{what}, PYTHONOPTIMIZE={level}: status {status}, {said}', status == 1 and f'rules.Contradiction: {what}: ' in said)
+
+
+FAILING = """
+import os, subprocess, sys, threading, time
+sys.path.insert(0, sys.argv[1])
+import frame
+
+def fails_while_a_thread_waits(folder):
+    reader, writer = os.pipe()
+    threading.Thread(target=lambda: os.read(reader, 1)).start()
+    raise frame.Wrong('as it should')
+
+def takes_too_long(folder):
+    started()
+    time.sleep(600)
+
+def leaves_a_process(folder):
+    started()
+
+def falls(folder):
+    return folder.nothing
+
+def started():
+    process = subprocess.Popen(['sleep', '600'])
+    with open('started', 'a') as file:
+        print(process.pid, file=file)
+
+def passes(folder):
+    pass
+
+frame.run_parts('it', [passes, fails_while_a_thread_waits, takes_too_long, leaves_a_process, falls], sys.argv[2:], 1)
+"""
+
+
+def failing_parts(folder):
+    """A part that fails, hangs or falls ends, with all that it started, and the others are run."""
+    script = file_of(folder, 'failing.py', FAILING.encode())
+    words = [sys.executable, '-B', script, os.path.join(TOP, 'tests')]
+    status, out, said = run(words, cwd=folder)
+    told = [line for line in out.decode().split('\n') if line]
+    same('the status', status, 1)
+    same('what is told', told, ['it: FAILED: fails_while_a_thread_waits: as it should', 'it: FAILED: takes_too_long: not done after 1 s',
+                               'it: FAILED: falls'])
+    holds(f'the fall is told: {said}', 'AttributeError' in said)
+    left = [int(pid) for pid in lines_of(os.path.join(folder, 'started'))]
+    same('what goes on', (len(left), [pid for pid in left if not is_gone(pid)]), (2, []))
+    same('a part by its name', run(words + ['passes'], cwd=folder), (0, b'it: 1 parts as expected: passes\n', ''))
+    same('a part that is not there', run(words + ['nothing'], cwd=folder)[0], 1)
+    # a signal ends the part that is at work
+    os.remove(os.path.join(folder, 'started'))
+    script = file_of(folder, 'failing.py', FAILING.replace('[2:], 1)', '[2:], 600)').encode())
+    with started(words + ['takes_too_long'], cwd=folder) as runner:
+        comes_true('the part has begun', lambda: len(lines_of(os.path.join(folder, 'started'))) == 1)
+        runner.send_signal(signal.SIGTERM)
+        same('the status', runner.wait(SHORT), 128 + signal.SIGTERM)
+        same('what goes on', [pid for pid in map(int, lines_of(os.path.join(folder, 'started'))) if not is_gone(pid)], [])
+
+
+DATA = 'samples.expected', 'pack.refused', 'edges.expected'
+
+
+class C:
+    """tests/c.sh in a folder of its own, with two lines of each file of data, and stand-ins for the compilers, which note what they are
+    given and build programs that do nothing."""
+
+    def __init__(self, folder):
+        self.top = os.path.join(folder, 'checkout')
+        for part in ('tests', 'tools', 'samples', 'include', 'examples'):
+            shutil.copytree(os.path.join(TOP, part), os.path.join(self.top, part))
+        for name in DATA:
+            path = os.path.join(self.top, 'tests', name)
+            file_of(os.path.dirname(path), name, b''.join(contents(path).splitlines(True)[:2]))
+        self.bin = os.path.join(folder, 'bin')
+        os.makedirs(self.bin)
+        self.built = os.path.join(folder, 'built')
+        for name in ('cc', 'c++'):
+            script_of(os.path.join(self.bin, name), f'echo "$*" >>{shlex.quote(self.built)}',
+                      'while [ $# -gt 1 ]; do [ "$1" = -o ] && { echo "#!/bin/sh" >"$2" && chmod +x "$2"; }; shift; done')
+        script_of(os.path.join(self.bin, 'uname'), 'echo x86_64')
+        os.makedirs(os.path.join(self.top, 'lib'))
+        file_of(os.path.join(self.top, 'lib'), 'libstretch.a', b'')
+
+    def run(self, **more):
+        env = dict(os.environ, PATH=self.bin + os.pathsep + os.environ['PATH'], **more)
+        env.pop('C_BY_KIT', None)
+        return run(['tests/c.sh', 'lib/libstretch.a', 'built'], env=env, cwd=self.top)
+
+
+def c_without_data(folder):
+    """A file of data without a line is a failure, and not a test of nothing."""
+    c = C(folder)
+    holds('a file with lines is called empty', b'is empty' not in c.run()[1])
+    for name in DATA:
+        path = os.path.join(c.top, 'tests', name)
+        kept = contents(path)
+        file_of(os.path.dirname(path), name, b'')
+        status, out, _ = c.run()
+        same(f'{name} is empty', (status, f'c: FAILED: tests/{name} is empty'.encode() in out.split(b'\n')), (1, True))
+        file_of(os.path.dirname(path), name, kept)
+
+
+def c_elsewhere(folder):
+    """With folders of the same names among those that cd searches, what is built is that of this folder."""
+    c = C(folder)
+    for name in ('lib', 'tests', 'built'):
+        os.makedirs(os.path.join(folder, 'decoy', name))
+    c.run(CDPATH=os.path.join(folder, 'decoy'))
+    words = contents(c.built).split()
+    same('the archive', {word for word in words if word.endswith(b'.a')}, {os.fsencode(os.path.realpath(os.path.join(c.top, 'lib', 'libstretch.a')))})
+    holds('what is elsewhere is built', words and b'/decoy/' not in contents(c.built))
+
+
 PARTS = [waits_for_input, late_line, no_further, names_in_blocks, stops_blocking, cut_line, full_messages, obeyed_words, obeyed_arguments,
-         signals_while_building, lock_outlives, one_build_at_a_time, signals_while_listing, no_kit, relative_path, handed_on, closed_descriptors]
+         signals_while_building, lock_outlives, one_build_at_a_time, signals_while_listing, no_kit, relative_path, handed_on, closed_descriptors,
+         options_alike, blanks_alike, unpacked_in_pieces, optimised, failing_parts, c_without_data, c_elsewhere]
 
 
 if __name__ == '__main__':
