@@ -252,6 +252,10 @@ def obeyed_words(folder):
     said = run([PACK], TEXT + b'\x1b[31m?0\xc2\x9b\xff\xe2\x80\xae @5\n')[2]
     same('escapes', said, "pack: line 4: '\\x1b[31m?0\\x9b\\xff\\u202e' is not an action: ?0 to ?63 or !0 to !63\n")
     same('no name', run([NAMES], b'?' + b'0' * 5000 + b'\n')[2], 'names: line 1: there is no name behind ?0\n')
+    # letters and digits that only look like those of ASCII
+    for word, told in ((b'?\xef\xbc\x90', "'\\uff10' is not an action's number"), (b'\xef\xbc\x9f0', "'\\uff1f0' is not an action: ")):
+        holds(told, told in run([PACK], TEXT + word + b' @5\n')[2])
+        holds(told, told in run([NAMES], word + b' x\n')[2])
 
 
 def obeyed_arguments(folder):
@@ -284,23 +288,25 @@ def lines_of(path):
     return contents(path).split(b'\n')[:-1] if os.path.exists(path) else []
 
 
-class Provers:
-    """An rt check that starts two processes and waits for them, as rt does. Each of the three leaves its number, rt first."""
+@contextlib.contextmanager
+def building(made, first=':'):
+    """A tool whose rt check has started two processes and waits for them, as rt does; and the numbers of the three, rt's first. What the two
+    do `first` is given. None of them is left."""
+    path = os.path.join(made.top, 'numbers')
+    mine = f'echo $$ >>{shlex.quote(path)}'
+    made.play(more=f"{mine}; for i in 1 2; do sh -c {shlex.quote(f'{first}; {mine}; exec sleep 600')} & done; wait")
+    try:
+        with listing_nothing(made) as tool:
+            comes_true('rt check has started two processes', lambda: len(lines_of(path)) == 3)
+            yield tool, [int(line) for line in lines_of(path)]
+    finally:
+        for line in lines_of(path):
+            with contextlib.suppress(ProcessLookupError):
+                os.kill(int(line), signal.SIGKILL)
+        os.remove(path)
 
-    def __init__(self, made, prover='exec sleep 600'):
-        self.path = os.path.join(made.top, 'provers')
-        mine = f'echo $$ >>{shlex.quote(self.path)}'
-        made.play(more=f"{mine}; for i in 1 2; do sh -c {shlex.quote(f'{mine}; {prover}')} & done; wait")
 
-    def numbers(self):
-        return [int(line) for line in lines_of(self.path)]
-
-    def begun(self):
-        comes_true('rt check has started two processes', lambda: len(self.numbers()) == 3)
-        return self.numbers()
-
-
-def building(made):
+def listing_nothing(made):
     return started([made.listing], stdin=subprocess.DEVNULL, stderr=subprocess.PIPE, env=made.environment())
 
 
@@ -308,21 +314,16 @@ def signals_while_building(folder):
     """A signal ends all that a check has started, and the lock is free."""
     made = Folder(folder)
     for number in HEEDED:
-        provers = Provers(made)
-        with building(made) as tool:
-            begun = provers.begun()
+        with building(made) as (tool, begun):
             tool.send_signal(number)
             same(f'the status after {number!r}', tool.wait(SHORT), -number)
             same(f'what is left after {number!r}', [pid for pid in begun if not is_gone(pid)], [])
             same(f'messages after {number!r}', tool.stderr.read(), b'')
-        os.remove(provers.path)
         made.play()
         same('the next listing', made.run(data=FORM + END_RECORD)[0], 0)
     # what does not end by itself is killed
     made.hurry()
-    provers = Provers(made, 'trap "" TERM; while :; do sleep 1; done')
-    with building(made) as tool:
-        begun = provers.begun()
+    with building(made, 'trap "" TERM') as (tool, begun):
         tool.send_signal(signal.SIGTERM)
         same('the status', tool.wait(SHORT), -signal.SIGTERM)
         same('what is left', [pid for pid in begun if not is_gone(pid)], [])
@@ -332,23 +333,20 @@ def lock_outlives(folder):
     """Where the tool and rt are killed, what they have started still holds the lock: nothing else is built beside it."""
     made = Folder(folder)
     made.hurry()
-    provers = Provers(made)
-    with building(made) as tool:
-        rt, *others = provers.begun()
-        tool.kill()
-        tool.wait(SHORT)
-    asked = f'echo "$*" >>{shlex.quote(made.asked)}'
-    made.play(more=asked)
-    with building(made) as tool:
-        for pid in (rt, others[0]):
-            os.kill(pid, signal.SIGKILL)
-            comes_true('it is killed', lambda pid=pid: is_gone(pid))
-        same('what is said', some_line(tool.stderr), 'listing: waiting for another tools/listing, which is proving and building\n')
-        time.sleep(.3)
-        same('rt check beside one of the first', made.times_asked(), 0)
-        os.kill(others[1], signal.SIGKILL)
-        same('the status', tool.wait(SHORT), 1)
-        same('rt check', made.times_asked(), 1)
+    with building(made) as (first, begun):
+        first.kill()
+        first.wait(SHORT)
+        made.play(more=f'echo "$*" >>{shlex.quote(made.asked)}')
+        with listing_nothing(made) as second:
+            for pid in begun[:2]:
+                os.kill(pid, signal.SIGKILL)
+                comes_true('it is killed', lambda pid=pid: is_gone(pid))
+            same('what is said', some_line(second.stderr), 'listing: waiting for another tools/listing, which is proving and building\n')
+            time.sleep(.3)
+            same('rt check beside the last of the first', made.times_asked(), 0)
+            os.kill(begun[2], signal.SIGKILL)
+            same('the status', second.wait(SHORT), 1)
+            same('rt check', made.times_asked(), 1)
 
 
 def one_build_at_a_time(folder):
@@ -356,7 +354,7 @@ def one_build_at_a_time(folder):
     busy, overlaps = (shlex.quote(os.path.join(made.top, name)) for name in ('busy', 'overlaps'))
     made.play(more=f'mkdir {busy} || echo >>{overlaps}; sleep .3; rmdir {busy}')
     with contextlib.ExitStack() as all_of_them:
-        tools = [all_of_them.enter_context(building(made)) for _ in range(4)]
+        tools = [all_of_them.enter_context(listing_nothing(made)) for _ in range(4)]
         same('their statuses', [tool.wait(SHORT) for tool in tools], [1] * 4)
     same('checks at the same time', lines_of(os.path.join(made.top, 'overlaps')), [])
 
@@ -375,8 +373,8 @@ def signals_while_listing(folder):
                 same('the number of programs run', len(programs), 1)
                 live.send_signal(number)
                 same(f'the status after {number!r}', live.wait(SHORT), -number)
-                same('messages', live.stderr.read(), b'')
                 holds(f'the program outlives the script after {number!r}', is_gone(programs[0]))
+                same('messages', live.stderr.read(), b'')
         for words, parts, want in (([made.listing], [FORM + first, last], b'2 O 2 161 certain 0\nend 2\n'),
                                    ([PACK, '--follow', '--trace'], [b'?0 @100\n', b'!2 @161\nend\n'], last)):
             with started(words, env=made.environment(), stdin=subprocess.PIPE,

@@ -19,7 +19,7 @@ sys.dont_write_bytecode = True
 import logs  # noqa: E402
 import rules  # noqa: E402
 from frame import (CARD, CARD_TEXT, LISTING, MARK, NAMES, PACK, PATIENCE, RELEASE, SAMPLES, SHORT, SITE, SWITCH, TEXT, TOP, UNPACK, Folder,  # noqa: E402
-                   children, contents, file_of, holds, message, run, run_parts, same, some_bytes, some_line, started)
+                   children, contents, file_of, holds, is_gone, message, run, run_parts, same, some_bytes, some_line, started)
 from logs import B, LONG, LONG_CARD, card_at_limit  # noqa: E402
 from rules import END, END_RECORD, GAP, INPUT, LIMIT, OUTPUT, TAP_END, TURN, pack_record, pack_tap  # noqa: E402
 
@@ -157,8 +157,8 @@ def live_lines(words, env, want, records=(pack_record(INPUT, 0, 100), pack_recor
             else:
                 live.send_signal(signal.SIGTERM)
                 same('the status after a signal', live.wait(SHORT), -signal.SIGTERM)
+                holds('the program outlives the script', is_gone(programs[0]))
                 same('messages after a signal', live.stderr.read(), b'')
-                holds('the program outlives the script', not os.path.exists(f'/proc/{programs[0]}'))
 
 
 def listing_leaves_input(folder):

@@ -103,7 +103,7 @@ class Check:
             for line in self.said[shown:whole].splitlines():
                 if line.startswith(b'rt: ') and not line.startswith(b'rt: ok,') and not line.endswith(UNCHANGED):
                     self.tell('the sources have changed: proving and building again, which takes up to some minutes')
-                    say(escaped(os.fsdecode(line)))
+                    say(os.fsdecode(line))
             shown = whole
 
     def run(self):
@@ -120,7 +120,7 @@ class Check:
             self.fail(check.returncode)
 
     def fail(self, status):
-        tail = '\n'.join(escaped(os.fsdecode(line)) for line in self.said.splitlines()[-5:])
+        tail = '\n'.join(os.fsdecode(line) for line in self.said.splitlines()[-5:])
         why = f'the program is not built: rt check ended with status {status}; {keep_log(self.said)}.'
         if not is_text(TOP):
             why += f" rt builds nothing in a folder whose path is not UTF-8, as '{escaped(TOP)}': give it another name."
