@@ -440,6 +440,9 @@ def handed_on(folder):
     script_of(made.program, show, 'echo end 0')
     same('status and output', made.run(rt=False, env=env)[:2], (0, b'end 0\n'))
     same('what is handed on', lines_of(seen), [b'KEPT=too', b'QEMULATOR=kept'] * 2)
+    # the C programs that the kit builds
+    status, out, said = run(['sh', '-c', 'top=$1 build=$2; . "$top/tests/x86.sh"; env', 'sh', TOP, folder], env=dict(env, C_BY_KIT='1'))
+    same('x86.sh', (status, [line for line in out.split(b'\n') if line.startswith(b'QEMU')], said), (0, [b'QEMULATOR=kept'], ''))
 
 
 def closed_descriptors(folder):
