@@ -23,6 +23,7 @@ use Rattle.kept.specs.declared.Event.the-variants as Kept
 use Rattle.walk.specs.Walk.{stop-number, stop-refusal, in-numbers}
 use Rattle.walk.specs.declared.Walked.{Walked}
 use Rattle.walk.specs.declared.Stop.the-variants.{Budget, End, Refused}
+use Rattle.stretch.specs.Version.{interface-version}
 use Rattle.names.specs.Lookup.{wanted}
 use Rattle.judged_rest.specs.Lent.{lent, run-of}
 use Rattle.demands.specs.Called.{action-if, zero-session}
@@ -92,7 +93,11 @@ pub walk-called : (w : Walked)
     ≡ record { taken = w .taken; stop = stop-number (w .stop); refusal = stop-refusal (w .stop); read = w .read; lost = w .lost; session = w .session }
 walk-called w = refl
 
--- and what a refused fresh call hands back is a session of zeros.
+-- what a refused fresh call hands back is a session of zeros;
 pub zeros-called : no-session ≡ zero-session
 unfolding first cut-of mask-to
 zeros-called = refl
+
+-- and the archive's version is that of include/anthegyra.h.
+pub version-called : interface-version ≡ 4
+version-called = refl

@@ -38,7 +38,6 @@ use Rattle.session_record.proofs.Steps.{step-refused, answer-refusal, fresh-ref
 use Rattle.session_record.proofs.Running.{running-answer}
 use Rattle.walk.specs.Walk.{walk-of, rest-start}
 use Rattle.stretch.specs.Judge.{judge-of, one-number}
-use Rattle.stretch.specs.Version.{interface-version}
 use Rattle.stretch.proofs.Judging.{one-long}
 use Rattle.printed.specs.Listing.{records-by, listing-by}
 pub use Rattle.printed.proofs.Whole.{listing-taken, listing-refused}
@@ -86,7 +85,7 @@ pub use Rattle.demands.proofs.Lost.{gap-read, gap-number, gap-written, 
 -- A walk that has used its budget up has not looked further.
 pub use Rattle.demands.proofs.Walks.{budget-spent}
 -- What is called, and what the session record holds after any calls.
-pub use Rattle.demands.proofs.Called.{kinds, own-call, line-called, mark-called, event-called, property-called, lines-called, name-called, record-called, stop-called, walk-called, zeros-called}
+pub use Rattle.demands.proofs.Called.{kinds, own-call, line-called, mark-called, event-called, property-called, lines-called, name-called, record-called, stop-called, walk-called, zeros-called, version-called}
 pub use Rattle.demands.proofs.Held.{running-holds, demand-10}
 -- A verdict once told stays told (document 02, CR 3): of the calls that run (`Told`), behind `running-3`.
 pub use Rattle.demands.proofs.Told.{told-stays, closed-stays, closed-history, line-stands, session-stays, walk-stays, listing-stays, refused-stays}
@@ -282,10 +281,6 @@ pub demand-C : (property trace : List ℕ) → Demand-C property trace (one-numb
 demand-C property trace =
     let a = taken-apart property trace in
     record { refusal = λ h. a h .0; verdict = λ h. a h .1; count = λ h. a h .2; longer = λ h. sym (one-long (judge-of property trace) h) }
-
--- The archive says which interface it has: that of include/anthegyra.h, whose number is 4.
-pub demand-version : (number : ℕ) → number ≡ interface-version → number ≡ 4
-demand-version number e = e
 
 -- "only one packing of each is taken": two traces that the judge takes with the same records are the same bytes.
 pub judge-one-packing : {property trace other : List ℕ} → (a : JudgeTaken property trace (judge-of property trace))
