@@ -96,7 +96,10 @@ class Stand:
             return None
 
     def was_ended(self, what, name):
-        """What waits, by now."""
+        """What waits, by now, or as soon as a process that is killed has gone."""
+        until = time.monotonic() + 2
+        while not is_over(self.begun(name)) and time.monotonic() < until:
+            time.sleep(0.01)
         if not is_over(self.begun(name)) or os.path.exists(os.path.join(self.top, f'{name}.done')):
             wrong(f'{what}: {name} went on', '')
 

@@ -170,11 +170,11 @@ def stops_blocking(folder):
     made = Folder(folder)
     reader, writer = os.pipe()
     with started([made.listing], stdin=reader, stderr=subprocess.PIPE, env=made.environment()) as lister:
-        os.write(writer, FORM)
-        same('the header', some_line(lister.stdout), HEADER)
+        os.write(writer, FORM + pack_record(INPUT, 0, 100))
+        same('two lines', [some_line(lister.stdout), some_line(lister.stdout)], [HEADER, '1 I 0 100 clear 1\n'])
         os.set_blocking(reader, False)
-        os.write(writer, pack_record(INPUT, 0, 100))
-        same('a line', some_line(lister.stdout), '1 I 0 100 clear 1\n')
+        # perhaps it waits already, and then for this one
+        os.write(writer, pack_record(INPUT, 0, 0))
         same('the status', lister.wait(SHORT), 2)
         message('it stops blocking', lister.stderr.read().decode(), 'standard input was set not to block')
     os.close(reader)
@@ -288,6 +288,10 @@ def lines_of(path):
     return contents(path).split(b'\n')[:-1] if os.path.exists(path) else []
 
 
+def all_gone(what, pids):
+    comes_true(f'gone is {what}', lambda: all(is_gone(int(pid)) for pid in pids))
+
+
 @contextlib.contextmanager
 def building(made, first=':'):
     """A tool whose rt check has started two processes and waits for them, as rt does; and the numbers of the three, rt's first. What the two
@@ -317,7 +321,7 @@ def signals_while_building(folder):
         with building(made) as (tool, begun):
             tool.send_signal(number)
             same(f'the status after {number!r}', tool.wait(SHORT), -number)
-            same(f'what is left after {number!r}', [pid for pid in begun if not is_gone(pid)], [])
+            all_gone(f'what rt started, after {number!r}', begun)
             same(f'messages after {number!r}', tool.stderr.read(), b'')
         made.play()
         same('the next listing', made.run(data=FORM + END_RECORD)[0], 0)
@@ -326,7 +330,7 @@ def signals_while_building(folder):
     with building(made, 'trap "" TERM') as (tool, begun):
         tool.send_signal(signal.SIGTERM)
         same('the status', tool.wait(SHORT), -signal.SIGTERM)
-        same('what is left', [pid for pid in begun if not is_gone(pid)], [])
+        all_gone('what rt started', begun)
 
 
 def lock_outlives(folder):
@@ -340,7 +344,7 @@ def lock_outlives(folder):
         with listing_nothing(made) as second:
             for pid in begun[:2]:
                 os.kill(pid, signal.SIGKILL)
-                comes_true('it is killed', lambda pid=pid: is_gone(pid))
+            all_gone('rt and one more', begun[:2])
             same('what is said', some_line(second.stderr), 'listing: waiting for another tools/listing, which is proving and building\n')
             time.sleep(.3)
             same('rt check beside the last of the first', made.times_asked(), 0)
@@ -609,8 +613,9 @@ def failing_parts(folder):
     same('what is told', told, ['it: FAILED: fails_while_a_thread_waits: as it should', 'it: FAILED: takes_too_long: not done after 1 s',
                                'it: FAILED: falls'])
     holds(f'the fall is told: {said}', 'AttributeError' in said)
-    left = [int(pid) for pid in lines_of(os.path.join(folder, 'started'))]
-    same('what goes on', (len(left), [pid for pid in left if not is_gone(pid)]), (2, []))
+    left = lines_of(os.path.join(folder, 'started'))
+    same('what was started', len(left), 2)
+    all_gone('what was started', left)
     same('a part by its name', run(words + ['passes'], cwd=folder), (0, b'it: 1 parts as expected: passes\n', ''))
     same('a part that is not there', run(words + ['nothing'], cwd=folder)[0], 1)
     # a signal ends the part that is at work
@@ -620,7 +625,7 @@ def failing_parts(folder):
         comes_true('the part has begun', lambda: len(lines_of(os.path.join(folder, 'started'))) == 1)
         runner.send_signal(signal.SIGTERM)
         same('the status', runner.wait(SHORT), 128 + signal.SIGTERM)
-        same('what goes on', [pid for pid in map(int, lines_of(os.path.join(folder, 'started'))) if not is_gone(pid)], [])
+        all_gone('what was started', lines_of(os.path.join(folder, 'started')))
 
 
 DATA = 'samples.expected', 'pack.refused', 'edges.expected'
