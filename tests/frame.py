@@ -1,5 +1,5 @@
-"""What tests/tools.py and tests/odd.py share: running a tool, looking at what it answers, a folder with the tools and a stand-in for rt,
-and running the parts of a test."""
+"""What tests/tools.py, tests/odd.py and tests/selftest.py share: running a tool, looking at what it answers, a folder with the tools and a
+stand-in for rt, and running the parts of a test."""
 import contextlib
 import os
 import select
@@ -46,6 +46,11 @@ def holds(what, truth):
 def contents(path):
     with open(path, 'rb') as file:
         return file.read()
+
+
+def lines_of(path):
+    """No lines where there is no such file."""
+    return contents(path).split(b'\n')[:-1] if os.path.exists(path) else []
 
 
 def file_of(folder, name, data):
@@ -131,6 +136,10 @@ def is_gone(pid):
     """Also where nobody has asked for its status yet."""
     found = state(pid)
     return found is None or found[0] == 'Z'
+
+
+def all_gone(what, pids):
+    comes_true(f'gone is {what}', lambda: all(is_gone(int(pid)) for pid in pids))
 
 
 def children(pid):
