@@ -37,10 +37,11 @@ def input_that_does_not_block(kind):
     else:
         reader, writer = (end.detach() for end in socket.socketpair())
     os.set_blocking(reader, False)
-    ends = {reader: True, writer: True}
+    ends = {reader, writer}
 
     def close(end):
-        if ends.pop(end, False):
+        if end in ends:
+            ends.remove(end)
             os.close(end)
     try:
         yield reader, writer, close
