@@ -10,7 +10,7 @@ use lib.Seq.{getD-set-same, getD-set-other}
 use lib.Dec.{eqb}
 use borrow.Author.Tests.{eqb-true, eqb-false}
 use Rattle.rows.specs.declared.Span.{Span}
-use Rattle.rows.specs.Rows.{spanning, none, longer, place, word, with, Room}
+use Rattle.rows.specs.Rows.{spanning, none, longer, place, word, with, Within, Room}
 
 -- A store
 module _ (rows : List (List ℕ)) (s : Span) (k i v : ℕ) where
@@ -63,6 +63,9 @@ module _ (rows : List (List ℕ)) (s : Span) (k i v : ℕ) where
 pub word-spanning : (rows : List (List ℕ)) (n k i : ℕ) → i ≤ 64 → word rows (spanning n) k i ≡ getD (getD rows k []) i 0
 unfolding word place
 word-spanning rows n k i h = refl
+
+pub within-none : Within none
+within-none = record { few = omega arith }
 
 pub room-none : (rows : List (List ℕ)) (s : Span) → Room rows s → Room rows none
 room-none rows s r = record { long = r .long; shared = r .shared; few = omega arith }

@@ -26,7 +26,11 @@ word rows s k i = getD (getD rows k []) (place s i) 0
 unfoldable pub with : List (List ℕ) → Span → ℕ → ℕ → ℕ → List (List ℕ)
 with rows s k i v = set rows k (set (getD rows k []) (place s i) v)
 
--- Every row has its 65 places: "there are never more than sixty-five cuts to hold"; the two rows of the open inputs are there.
+-- A span for which 65 places are enough: "there are never more than sixty-five cuts to hold".
+pub record Within (s : Span) : Type 0 where
+  pub few : s .count ≤ 64
+
+-- Every row has its 65 places, and they are enough; the two rows of the open inputs are there.
 pub record Room (rows : List (List ℕ)) (s : Span) : Type 0 where
   pub long : (k : ℕ) → k < length rows → length (getD rows k []) ≡ 65
   pub shared : 1 < length rows

@@ -20,7 +20,7 @@ use Rattle.matcher.specs.declared.Cut.{Cut}
 use Rattle.matcher.specs.Sets.{cut-of}
 use Rattle.matcher.proofs.Words.{cut-back}
 use Rattle.rows.specs.declared.Span.{Span}
-use Rattle.rows.specs.Rows.{spanning, none, Room}
+use Rattle.rows.specs.Rows.{spanning, none, Within, Room}
 use Rattle.clock.specs.declared.Clock.{Clock}
 use Rattle.cuts.specs.Steps.{front-none, fresh-by}
 use Rattle.cuts.specs.Fronts.{cut-at, set-at, held-at, front-of, sets-of}
@@ -29,8 +29,8 @@ use Rattle.session_record.specs.Step.{no-session}
 use Rattle.session_record.specs.Lent.{Memory, held-in, record-in, Ready, of-arrays, packed, packed-of, blank}
 
 -- Four rows, each with its places.
-pub four-room : (a b c d : List ℕ) → length a ≡ 65 → length b ≡ 65 → length c ≡ 65 → length d ≡ 65 → (s : Span) → s .count ≤ 64 → Room (a ∷ b ∷ c ∷ d ∷ []) s
-four-room a b c d x y z w s few = record { long = long; shared = omega arith; few = few }
+pub four-room : (a b c d : List ℕ) → length a ≡ 65 → length b ≡ 65 → length c ≡ 65 → length d ≡ 65 → (s : Span) → Within s → Room (a ∷ b ∷ c ∷ d ∷ []) s
+four-room a b c d x y z w s within = record { long = long; shared = omega arith; few = within .few }
   where
     long : (k : ℕ) → k < 4 → length (getD (a ∷ b ∷ c ∷ d ∷ []) k []) ≡ 65
     long zero h = x

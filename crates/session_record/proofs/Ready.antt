@@ -17,7 +17,7 @@ use Rattle.meaning.proofs.InOrder.{InOrder, nothing, stamp-at, order-next, orde
 use Rattle.property.specs.Meant.{meant}
 use Rattle.property.specs.declared.Property.{Property}
 use Rattle.rows.specs.declared.Span.{Span}
-use Rattle.rows.specs.Rows.{word, Room}
+use Rattle.rows.specs.Rows.{word, Within, Room}
 use Rattle.cuts.specs.Steps.{front-none, fresh-by, refusal-by, taken-by, told-by, says}
 use Rattle.cuts.specs.Fronts.{held-at, front-of, Usable}
 use Rattle.session_record.specs.declared.Session.{Session}
@@ -36,11 +36,11 @@ use Rattle.session_record.proofs.Steps.{step-refused, step-taken, answe
 pub fits-ready : (s : Session) → out-of-range s ≡ false → Room (rows-of s) (span-of s) → Ready (memory-of s)
 fits-ready s e room = record { room = room; there = omega arith; ranged = ranged s e }
 
-pub lent-ready : (s : Session) → out-of-range s ≡ false → (rows : List (List ℕ)) → rows ≡ rows-of s → ((span : Span) → span .count ≤ 64 → Room rows span)
+pub lent-ready : (s : Session) → out-of-range s ≡ false → (rows : List (List ℕ)) → rows ≡ rows-of s → ((span : Span) → Within span → Room rows span)
     → Ready (memory (s .property) rows (s .shared .status))
 lent-ready s e rows same rooms =
     subst (λ (x : List (List ℕ)). Ready (memory (s .property) x (s .shared .status))) (sym same)
-    (fits-ready s e (subst (λ (x : List (List ℕ)). Room x (span-of s)) same (rooms (span-of s) (ranged s e .few))))
+    (fits-ready s e (subst (λ (x : List (List ℕ)). Room x (span-of s)) same (rooms (span-of s) (record { few = ranged s e .few }))))
 
 -- While blind,
 pub blind-ready : (m : Memory) → property-refusal (meant (m .property)) ≡ 0 → Room (m .rows) (m .status .span) → 3 < length (m .rows) → m .status .span .count ≡ 0
@@ -194,7 +194,7 @@ module _ (p : Property) (good : property-refusal (meant p) ≡ 0) (r : Stepped) 
       ∙ ap (λ (x : Stepped). record-in (memory p (rows-of (x .session)) (x .session .shared .status))) taken
       ∙ ap (record-of p) (cuts-back p good (fresh-fit p))
 
-  pub fresh-ready : ((span : Span) → span .count ≤ 64 → Room rows span) → Ready fresh-memory
+  pub fresh-ready : ((span : Span) → Within span → Room rows span) → Ready fresh-memory
   fresh-ready rooms =
       subst (λ (q : Property). Ready (memory q rows (r .session .shared .status))) (ap (λ (x : Stepped). x .session .property) taken)
       (lent-ready (r .session) (ap (λ (x : Stepped). out-of-range (x .session)) taken ∙ in-range p good (fresh-fit p)) rows same rooms)

@@ -4,7 +4,7 @@ ghost use mathlib.Core.Path.{_≡_};
 ghost use lib.ListN.{length};
 ghost use Rattle.meaning.specs.Calls;
 ghost use Rattle.rows.specs.declared.Span.{Span};
-ghost use Rattle.rows.specs.Rows.{Room};
+ghost use Rattle.rows.specs.Rows.{Within, Room};
 ghost use Rattle.session_record.specs.Record.{rows-of, out-of-range};
 ghost use Rattle.session_record.specs.Step.{answer-of};
 ghost use Rattle.session_record.specs.Lent.{memory, record-in, Ready, of-arrays, packed-of};
@@ -52,7 +52,7 @@ pub type Block = [Words; 4];
 
 // The rows of a record.
 pub fn rows_of(s: Session) -> Block
-    ensures { λ r. ⌜ (r ≡ rows-of s) × (length r ≡ 4) × ((span : Span) → span .count ≤ 64 → Room r span) ⌝ }
+    ensures { λ r. ⌜ (r ≡ rows-of s) × (length r ≡ 4) × ((span : Span) → Within span → Room r span) ⌝ }
 {
     let shared = s.shared;
     let row = s.row;

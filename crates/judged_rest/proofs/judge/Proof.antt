@@ -1,11 +1,11 @@
 -- `judged_rest::judge` meets its contract. The loop: what the first k lines have come to.
 use Prim.Native.Nat.{ℕ, _-_, _≤_}
-use mathlib.Core.Path.{_≡_, refl, ap, _∙_}
+use mathlib.Core.Path.{_≡_, refl, sym, ap, subst, _∙_}
 use native.Mathlib.Omega.{arith}
 use lib.ListN.{length, replicate}
 use borrow.Author.Needs.{needs}
-use Rattle.rows.specs.declared.Span.{Span}
-use Rattle.rows.specs.Rows.{Room}
+use Rattle.rows.specs.Rows.{none, Room}
+use Rattle.rows.proofs.Rows.{within-none}
 use Rattle.session_record.specs.Lent.{memory, held-in, Ready}
 use Rattle.session_record.proofs.Making.{four-room}
 use Rattle.judged_rest.specs.Lent.{Lines, lent}
@@ -60,8 +60,8 @@ run b = lent (b .args .output .now) (b .args .action .now) (b .args .stamp .now)
 -- the rows at first, each with its places
 room : (k : tie.After-spanning Inv-loop μ-loop) → Room (replicate 4 (replicate 65 0)) (k .spanning .result)
 room k =
-    let few : k .spanning .result .count ≡ 0 = ap (λ (s : Span). s .count) (k .spanning .ensures) in
-    four-room (replicate 65 0) (replicate 65 0) (replicate 65 0) (replicate 65 0) refl refl refl refl (k .spanning .result) (omega arith)
+    subst (Room (replicate 4 (replicate 65 0))) (sym (k .spanning .ensures))
+    (four-room (replicate 65 0) (replicate 65 0) (replicate 65 0) (replicate 65 0) refl refl refl refl none within-none)
 
 put-cut-requires : tie.Need-put-cut-requires Inv-loop μ-loop
 put-cut-requires c κs = (room (c .before), omega arith, omega arith)

@@ -53,7 +53,7 @@ few e = le-ltb most-open (count-of (S (back-1 e))) (e .if2 .left)
 
 -- the rows of the record
 rooms : (k : tie.After-rows-of) → Room (k .rows-of .result) (span-of (S (back-1 (k .before))))
-rooms k = k .rows-of .ensures .2 (span-of (S (back-1 (k .before)))) (k .before .if2 .left)
+rooms k = k .rows-of .ensures .2 (span-of (S (back-1 (k .before)))) (record { few = k .before .if2 .left })
 
 fell : (k : tie.After-falls) → k .falls .result ≡ fallen (S (back-1 (whole k)))
 fell k =
