@@ -26,9 +26,11 @@ HUGE = 2 ** 64 - 1
 LAST = 2 ** 32 - 1  # of the tap card's counter
 
 # ---- the session record, as the script gives it and the console prints it. Each cut has a mask of matched lengths that are not
-# armed, and beside it a number with those that are, from bit 1 on; its bit 0 says that broken is among them.
+# armed, and beside it a number with those that are, from bit 1 on; its bit 0 says that broken is among them. Its lists are rings of
+# PLACES places: index i stands at place start + i, and behind the last place comes the first.
 
 BESIDE = "marks"
+PLACES = 65
 
 # ---- records
 
@@ -46,11 +48,12 @@ NONE = prop([], (), 0, 0)
 B = prop(["?0"])
 
 
-def session(p=B, count=0, held=(), acts=(), masks=(1,), beside=(), latest=0, blind=0):
-    def full(places, size):
-        return list(places) + [0] * (size - len(places))
-    return {"property": p, "count": count, "held": full(held, 64), "acts": full(acts, 64), "masks": full(masks, 65),
-            BESIDE: full(beside, 65), "latest": latest, "blind": blind}
+def session(p=B, count=0, held=(), acts=(), masks=(1,), beside=(), latest=0, blind=0, start=0):
+    """The lists place by place, with 0 behind them."""
+    def full(places):
+        return list(places) + [0] * (PLACES - len(places))
+    return {"property": p, "start": start, "count": count, "held": full(held), "acts": full(acts), "masks": full(masks),
+            BESIDE: full(beside), "latest": latest, "blind": blind}
 
 
 ZEROS = session(NONE, masks=())
@@ -59,6 +62,22 @@ ZEROS = session(NONE, masks=())
 def full_house(stamp, p=B, **more):
     """64 inputs ?0 open at one stamp."""
     return session(p, 64, [stamp] * 64, [0] * 64, [1] + [2] * 64, latest=stamp, **more)
+
+
+def ring(s, name):
+    """A list of the record, index by index."""
+    return [s[name][(s["start"] + i) % PLACES] for i in range(PLACES)]
+
+
+def turned(s, start, waste=lambda name: 0):
+    """A record that says the same and begins at another place. `waste` gives what stands in places not in use."""
+    turned_ = dict(s, start=start)
+    for name, used in (("held", s["count"]), ("acts", s["count"]), ("masks", s["count"] + 1), (BESIDE, s["count"] + 1)):
+        places = [waste(name) for _ in range(PLACES)]
+        for i, value in enumerate(ring(s, name)[:0 if s["blind"] else used]):
+            places[(start + i) % PLACES] = value
+        turned_[name] = places
+    return turned_
 
 
 def meant(p):
@@ -70,12 +89,12 @@ def meant(p):
 def watch_of(s):
     """What a session record stands for."""
     cuts = [({(k, False) for k in range(64) if mask >> k & 1} | {(k, True) for k in range(63) if beside >> k + 1 & 1}, bool(beside & 1))
-            for mask, beside in zip(s["masks"], s[BESIDE])]
-    return rules.Watch(bool(s["blind"]), s["latest"], list(zip(s["held"], s["acts"]))[:s["count"]], cuts[:s["count"] + 1])
+            for mask, beside in zip(ring(s, "masks"), ring(s, BESIDE))]
+    return rules.Watch(bool(s["blind"]), s["latest"], list(zip(ring(s, "held"), ring(s, "acts")))[:s["count"]], cuts[:s["count"] + 1])
 
 
 def record_of(p, w):
-    """The session record of what it stands for."""
+    """The session record of what it stands for: it begins at the first place, and what is not in use is 0."""
     return session(p, len(w.held), [at for at, _ in w.held], [act for _, act in w.held],
                    [sum(1 << k for k, armed in lengths if not armed) for lengths, _ in w.cuts],
                    [int(broken) + sum(2 << k for k, armed in lengths if armed) for lengths, broken in w.cuts],
@@ -127,7 +146,7 @@ def property_bytes(p):
 
 
 def session_bytes(s):
-    return (property_bytes(s["property"]) + word(s["count"]) + b"".join(map(word, s["held"])) + bytes(s["acts"])
+    return (property_bytes(s["property"]) + word(s["start"]) + word(s["count"]) + b"".join(map(word, s["held"])) + bytes(s["acts"])
             + b"".join(map(word, s["masks"])) + b"".join(map(word, s[BESIDE])) + word(s["latest"]) + bytes([s["blind"]]))
 
 
@@ -179,9 +198,9 @@ class Console:
 
     def record(self):
         p = self.property()
-        count, latest, blind = self.numbers("session")
-        return {"property": p, "count": count, "held": self.numbers("held", 64), "acts": self.numbers("acts", 64),
-                "masks": self.numbers("masks", 65), BESIDE: self.numbers(BESIDE, 65), "latest": latest, "blind": blind}
+        start, count, latest, blind = self.numbers("session")
+        lists = {name: self.numbers(name, PLACES) for name in ("held", "acts", "masks", BESIDE)}
+        return {"property": p, "start": start, "count": count, **lists, "latest": latest, "blind": blind}
 
 
 # ---- the session that stands, and the next one
@@ -715,6 +734,7 @@ def records_of_no_calls():
         ("length 32 armed", session(longest, masks=(), beside=[2 ** 34 - 1], latest=100)),
         ("an armed length above in a cut not in use", session(two, **base, beside=[0, 1, 0, 16, HUGE])),
         ("blind, an armed length above", session(two, masks=(), latest=100, blind=1, beside=[16, HUGE])),
+        ("start 64", turned(session(two, **base), 64, lambda name: 200)),
     ]
     for name, s in fit:
         title("a session record in range: " + name)
@@ -747,8 +767,11 @@ def records_of_no_calls():
         ("UB 60,000,001", session(prop(["?0"], ub=60_000_001), latest=100)),
         ("number 64", session(prop(["?64"]), latest=100)),
         ("number 64 at the last place", session(prop(["?0"] * 31 + ["!64"]), latest=100)),
-        ("65 held stamps", session(two, 65, [100] * 64, [0] * 64, [1] * 65, latest=100)),
+        ("65 held stamps", session(two, 65, [100] * 65, [0] * 65, [1] * 65, latest=100)),
         ("very many held stamps", session(two, HUGE, latest=100)),
+        ("start 65", session(two, **base, start=65)),
+        ("start 2^64 - 1", session(two, **base, start=HUGE)),
+        ("start 65 while blind", session(two, masks=(), latest=100, blind=1, start=65)),
         ("held stamps out of order", session(two, **{**base, "held": [91, 90]})),
         ("the last two out of order", session(two, 64, [50] * 62 + [60, 59], [0] * 64, [1] * 65, latest=100)),
         ("held past the latest", session(two, **{**base, "held": [90, 101]})),
@@ -1295,4 +1318,5 @@ def main():
     print("  sessions held against all orders of their run: %d" % LISTED[0])
 
 
-main()
+if __name__ == "__main__":
+    main()

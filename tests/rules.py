@@ -166,9 +166,9 @@ def armed(p, acts):
     return any(not any(out for out, _ in acts[end:]) for end in ends_of_sequence(p, acts))
 
 
-def longest_beginning(p, acts):
+def longest_beginning(sequence, acts):
     """The length of the longest beginning of the sequence that ends these actions."""
-    return max(k for k in range(min(len(p.sequence), len(acts)) + 1) if acts[len(acts) - k:] == p.sequence[:k])
+    return max(k for k in range(min(len(sequence), len(acts)) + 1) if acts[len(acts) - k:] == sequence[:k])
 
 
 def listed_verdict(p, run, most=MOST_LISTED):
@@ -196,7 +196,7 @@ def listed_cuts(p, run, count):
             if breaks(p, behind):
                 cuts[cut][1] = True
             else:
-                cuts[cut][0].add((longest_beginning(p, actions(behind)), armed(p, actions(behind))))
+                cuts[cut][0].add((longest_beginning(p.sequence, actions(behind)), armed(p, actions(behind))))
     return [tuple(cut) for cut in cuts]
 
 
@@ -218,14 +218,20 @@ def standing(w):
     return BLIND if w.blind else CLEAR if not broken else SUSPECT if lengths else CERTAIN
 
 
+@functools.lru_cache(maxsize=10_000)
+def next_length(sequence, k, action):
+    """The length matched after one action more, from k."""
+    return longest_beginning(sequence, sequence[:k] + (action,))
+
+
 def moved(p, cut, out, act):
     """A cut after one action more. Broken stays broken; a whole match arms, an output disarms."""
-    lengths, broken = set(), cut[1]
+    sequence, lengths, broken = tuple(p.sequence), set(), cut[1]
     for k, is_armed in cut[0]:
         if is_armed and outside(p, out, act):
             broken = True
         else:
-            k = longest_beginning(p, p.sequence[:k] + [(bool(out), act)])
+            k = next_length(sequence, k, (bool(out), act))
             lengths.add((k, k == len(p.sequence) or is_armed and not out))
     return lengths, broken
 

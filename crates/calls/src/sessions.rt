@@ -3,6 +3,7 @@ use clock::Clock;
 use cuts::Row;
 use held::Shared;
 use held::Status;
+use rows::Span;
 use script::arguments;
 use script::properties;
 use script::text;
@@ -10,27 +11,30 @@ use script::text::Page;
 use session_record::Session;
 
 // So many bytes of a script.
-pub const SIZE: usize = 1729;
+pub const SIZE: usize = 1746;
 
-// A property, count, 64 held stamps, 64 actions, 65 masks, 65 words of armed lengths, latest, blind. The last place of the stamps and of the
-// actions, in which none is ever held, is 0.
+// A property, start, count, the ring's places as they stand (65 held stamps, 65 actions, 65 masks, 65 words of armed lengths), latest, blind.
 pub fn read(s: &[u8]) -> Session {
     let p = properties::read(s);
     let mut held = [0u64; 65];
-    arguments::words(arguments::behind(s, 104), &mut held[..64]);
-    let mut numbers = [0u8; 64];
-    arguments::bytes(arguments::behind(s, 616), &mut numbers);
+    arguments::words(arguments::behind(s, 112), &mut held);
+    let mut numbers = [0u8; 65];
+    arguments::bytes(arguments::behind(s, 632), &mut numbers);
     let acts = text::wide_bytes(&numbers);
     let mut masks = [0u64; 65];
-    arguments::words(arguments::behind(s, 680), &mut masks);
+    arguments::words(arguments::behind(s, 697), &mut masks);
     let mut armed = [0u64; 65];
-    arguments::words(arguments::behind(s, 1200), &mut armed);
+    arguments::words(arguments::behind(s, 1217), &mut armed);
     let clock = Clock {
-        latest: arguments::word_at(s, 1720),
-        blind: arguments::flag(s, 1728),
+        latest: arguments::word_at(s, 1737),
+        blind: arguments::flag(s, 1745),
+    };
+    let span = Span {
+        start: arguments::size_at(s, 96),
+        count: arguments::size_at(s, 104),
     };
     let status = Status {
-        span: rows::spanning(arguments::size_at(s, 96)),
+        span: span,
         clock: clock,
     };
     session_record::of_arrays(p, held, acts, masks, armed, status)
@@ -42,11 +46,12 @@ fn put_shared(out: &mut Page, at: usize, shared: Shared) -> usize {
     let span = status.span;
     let clock = status.clock;
     let numbers = [
+        span.start as u64,
         span.count as u64,
         clock.latest,
         text::wide_flag(clock.blind),
     ];
-    let first = text::put_line(out, at, b"session", &numbers, 3);
+    let first = text::put_line(out, at, b"session", &numbers, 4);
     let held = shared.held;
     let second = text::put_used(out, first, b"held", &held);
     let acts = shared.acts;

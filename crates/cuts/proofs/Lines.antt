@@ -22,8 +22,8 @@ use Rattle.property.specs.declared.Property.{Property}
 use Rattle.matcher.specs.declared.Cut.{Cut}
 use Rattle.matcher.specs.Sets.{set-of, Fits, Moved}
 use Rattle.rows.specs.declared.Span.{Span}
-use Rattle.rows.specs.Rows.{longer, word, with, Room, Dropped}
-use Rattle.rows.proofs.Rows.{tall-with, room-with, word-here, word-there, word-elsewhere, count-longer, word-longer, room-longer}
+use Rattle.rows.specs.Rows.{longer, shorter, word, with, Room}
+use Rattle.rows.proofs.Rows.{tall-with, room-with, word-here, word-there, word-elsewhere, count-longer, word-longer, room-longer, count-shorter, word-shorter, room-shorter}
 use Rattle.held.specs.Held.{line-at, with-input, Closes}
 use Rattle.cuts.specs.Steps.{line-of, front-closed, front-then, front-after}
 use Rattle.cuts.specs.Fronts.{cut-at, with-cut, set-at, held-at, front-of, Usable, Holds, Appended}
@@ -32,42 +32,38 @@ use Rattle.cuts.proofs.Sweeps.{cut-same, line-same, line-kept, cut-tall
 held-same : (l l′ : Line) (s s′ : Lengths) → l ≡ l′ → s ≡ s′ → _≡_ {A = Held Lengths} (record { line = l; after = s }) (record { line = l′; after = s′ })
 held-same l l′ s s′ e f = ap₂ (λ (x : Line) (y : Lengths). record { line = x; after = y }) e f
 
--- ---- closing: the first d give their places up
+-- ---- closing: the first d give their places up, and nothing is moved
 
-module _ (p : Property) (before after : List (List ℕ)) (s r : Span) (j T d : ℕ) (usable : Usable p before s j) (closes : Closes (p .ub) before s T d)
-    (drop : Dropped s d before after r) where
-  word-moved : (k i : ℕ) → k ≤ 3 + 2 * j → d + i ≤ s .count → word after r k i ≡ word before s k (d + i)
-  word-moved k i x h = drop .there k i (omega (arith, usable .there)) h
+module _ (p : Property) (rows : List (List ℕ)) (s : Span) (j T d : ℕ) (usable : Usable p rows s j) (closes : Closes (p .ub) rows s T d) where
+  cut-left : (i : ℕ) → cut-at rows (shorter s d) j i ≡ cut-at rows s j (d + i)
+  cut-left i = cut-same _ _ _ _ (word-shorter rows s d (2 + 2 * j) i) (word-shorter rows s d (3 + 2 * j) i)
 
-  cut-moved : (i : ℕ) → d + i ≤ s .count → cut-at after r j i ≡ cut-at before s j (d + i)
-  cut-moved i h = cut-same _ _ _ _ (word-moved (2 + 2 * j) i (omega arith) h) (word-moved (3 + 2 * j) i (omega arith) h)
+  held-left : (i : ℕ) → i < s .count - d → held-at rows (shorter s d) j i ≡ held-at rows s j (d + i)
+  held-left i h =
+      held-same _ _ _ _ (line-same _ _ _ _ (word-shorter rows s d 1 i) (word-shorter rows s d 0 i))
+      (ap set-of (cut-left (suc i) ∙ ap (cut-at rows s j) (add-suc d i)))
 
-  held-moved : (i : ℕ) → i < s .count - d → held-at after r j i ≡ held-at before s j (d + i)
-  held-moved i h =
-      held-same _ _ _ _ (line-same _ _ _ _ (word-moved 1 i (omega arith) (omega arith)) (word-moved 0 i (omega arith) (omega arith)))
-      (ap set-of (cut-moved (suc i) (omega arith) ∙ ap (cut-at before s j) (add-suc d i)))
-
-  pub front-left : front-of after r j ≡ front-closed p T (set-at before s j 0) (first (held-at before s j) (s .count))
+  pub front-left : front-of rows (shorter s d) j ≡ front-closed p T (set-at rows s j 0) (first (held-at rows s j) (s .count))
   front-left =
       ap₂ (λ (x : Lengths) (l : List (Held Lengths)). record { before = x; held = l })
-      (ap set-of (cut-moved 0 (omega (arith, closes .within)) ∙ ap (cut-at before s j) (add-zero d)))
-      (ap (first (held-at after r j)) (drop .counted)
-      ∙ first-same (held-at after r j) (λ i. held-at before s j (d + i)) (s .count - d) held-moved)
+      (ap set-of (cut-left 0 ∙ ap (cut-at rows s j) (add-zero d)))
+      (ap (first (held-at rows (shorter s d) j)) (count-shorter s d)
+      ∙ first-same (held-at rows (shorter s d) j) (λ i. held-at rows s j (d + i)) (s .count - d) held-left)
       ∙ sym
-      (closed-first (meant p) (lengths (meant p)) T (line-at before s) (set-at before s j) d (s .count) (closes .within)
-      (λ i l. lt-leb T (word before s 0 i + 2 * p .ub) (closes .closed i l))
-      (λ l. le-leb T (word before s 0 d + 2 * p .ub) (closes .next l)))
+      (closed-first (meant p) (lengths (meant p)) T (line-at rows s) (set-at rows s j) d (s .count) (closes .within)
+      (λ i l. lt-leb T (word rows s 0 i + 2 * p .ub) (closes .closed i l))
+      (λ l. le-leb T (word rows s 0 d + 2 * p .ub) (closes .next l)))
 
-  pub usable-left : Usable p after r j
+  pub usable-left : Usable p rows (shorter s d) j
   usable-left =
-      let counted : r .count ≡ s .count - d = drop .counted in
+      let counted : shorter s d .count ≡ s .count - d = count-shorter s d in
       let some : d ≤ s .count = closes .within in
       record {
         formed = usable .formed;
-        room = drop .room;
-        there = subst (λ (n : ℕ). 3 + 2 * j < n) (sym (drop .tall)) (usable .there);
-        stamps = λ i l. subst (λ (x : ℕ). x ≤ last-stamp) (sym (word-moved 0 i (omega arith) (omega arith))) (usable .stamps (d + i) (omega arith));
-        fits = λ i l. subst (Fits p) (sym (cut-moved i (omega arith))) (usable .fits (d + i) (omega arith));
+        room = room-shorter rows s d (usable .room);
+        there = usable .there;
+        stamps = λ i l. subst (λ (x : ℕ). x ≤ last-stamp) (sym (word-shorter rows s d 0 i)) (usable .stamps (d + i) (omega arith));
+        fits = λ i l. subst (Fits p) (sym (cut-left i)) (usable .fits (d + i) (omega arith));
       }
 
 -- ---- a new input: one cut more, then its stamp and number behind the last

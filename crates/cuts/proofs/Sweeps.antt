@@ -12,7 +12,7 @@ use Rattle.laws.proofs.Places.{first-same}
 use Rattle.meaning.specs.Words.{Action, Line}
 use Rattle.meaning.specs.Limits.{last-stamp}
 use Rattle.meaning.specs.Matcher.{Lengths, moved}
-use Rattle.meaning.specs.Step.{Held, lengths, swept-one}
+use Rattle.meaning.specs.Step.{Held, lengths, swept, swept-one}
 use Rattle.meaning.proofs.Fronts.{swept-set, swept-first}
 use Rattle.property.specs.Meant.{meant}
 use Rattle.property.specs.declared.Property.{Property}
@@ -78,13 +78,14 @@ line-kept s j before after o i =
 
 -- ---- an output goes through the cuts
 
-module _ (p : Property) (rows : List (List ℕ)) (s : Span) (j action stamp : ℕ) where
+-- With the first cut's new set, which is in its place already.
+module _ (p : Property) (rows : List (List ℕ)) (s : Span) (j action stamp : ℕ) (head : Lengths) where
   abbrev y : Line
   y = line-of true action stamp
 
   -- The sets of the cuts after the output, from the first.
   abbrev pub new-set : ℕ → Lengths
-  new-set i = swept-set (meant p) (lengths (meant p)) y (moved (meant p) (set-at rows s j 0) y) (held-at rows s j) i
+  new-set i = swept-set (meant p) (lengths (meant p)) y head (held-at rows s j) i
 
   -- The first i cuts have their new sets, and all else is as it was.
   pub record Sweeping (i : ℕ) (now : List (List ℕ)) : Type 0 where
@@ -95,14 +96,18 @@ module _ (p : Property) (rows : List (List ℕ)) (s : Span) (j action stamp : �
     pub fits : (k : ℕ) → k < i → Fits p (cut-at now s j k)
     pub kept : (k : ℕ) → i ≤ k → k ≤ 64 → cut-at now s j k ≡ cut-at rows s j k
 
-  pub sweeping-none : Room rows s → Sweeping 0 rows
-  sweeping-none room =
+  pub new-set-none : head ≡ new-set 0
+  unfolding swept-set
+  new-set-none = refl
+
+  pub sweeping-first : (c : Cut) → Room rows s → cut-at rows s j 0 ≡ c → set-of c ≡ head → Fits p c → Sweeping 1 rows
+  sweeping-first c room e is fit =
       record {
         tall = refl;
         room = room;
         others = λ k m x z. refl;
-        swept = λ k l. let w : ⊥ = omega arith in absurd w;
-        fits = λ k l. let w : ⊥ = omega arith in absurd w;
+        swept = λ k l. let q : k ≡ 0 = omega arith in ap (set-at rows s j) q ∙ ap set-of e ∙ is ∙ new-set-none ∙ ap new-set (sym q);
+        fits = λ k l. let q : k ≡ 0 = omega arith in subst (Fits p) (sym (ap (cut-at rows s j) q ∙ e)) fit;
         kept = λ k l few. refl;
       }
 
@@ -138,43 +143,62 @@ module _ (p : Property) (rows : List (List ℕ)) (s : Span) (j action stamp : �
             kept = λ k l h. other k h (λ (q : k ≡ i). omega arith) ∙ w .kept k (omega arith) h;
           }
 
-  -- the first set, and each next one from the one before, in the code's words: what was read is as before
-  pub new-set-none : moved (meant p) (set-at rows s j 0) y ≡ new-set 0
-  unfolding swept-set
-  new-set-none = refl
-
-  pub new-set-next : (i : ℕ) (now : List (List ℕ)) (before after next : Cut) (held input : ℕ) → Sweeping i now → i < 64
-      → set-of before ≡ new-set i → after ≡ cut-at now s j (i + 1) → held ≡ word now s 0 i → input ≡ word now s 1 i
+  -- each next set from the one before, in the code's words: the cut that was read is as before
+  pub new-set-next : (i : ℕ) (now : List (List ℕ)) (before after next : Cut) (held input : ℕ) → Sweeping (i + 1) now → i < 64
+      → set-of before ≡ new-set i → after ≡ cut-at now s j (i + 1) → held ≡ word rows s 0 i → input ≡ word rows s 1 i
       → SweptOne p action stamp held input before after next → set-of next ≡ new-set (i + 1)
   unfolding swept-set
   new-set-next i now before after next held input w few e f h n o =
       o .set
-      ∙ ap (λ (l : Line). one l (set-of before) (set-of after)) (line-same _ _ _ _ n h ∙ line-kept s j rows now (w .others) i)
+      ∙ ap (λ (l : Line). one l (set-of before) (set-of after)) (line-same _ _ _ _ n h)
       ∙ ap₂ (one (line-at rows s i)) e (ap set-of (f ∙ w .kept (i + 1) (omega arith) (omega arith) ∙ ap (cut-at rows s j) (add-one i)))
       ∙ ap new-set (sym (add-one i))
     where
       one : Line → Lengths → Lengths → Lengths
       one l x z = swept-one (meant p) (lengths (meant p)) y x (record { line = l; after = z })
 
-  pub rows-swept : (now : List (List ℕ)) → Usable p rows s j → Sweeping (s .count + 1) now → Swept p s j action stamp rows now
-  rows-swept now u w =
+-- The whole sweep: the first cut's new set stored, and then the others.
+module _ (p : Property) (rows mid now : List (List ℕ)) (s : Span) (j action stamp : ℕ) (c : Cut) (u : Usable p rows s j)
+    (head : set-of c ≡ moved (meant p) (set-at rows s j 0) (line-of true action stamp)) (put : mid ≡ with-cut rows s j 0 c)
+    (w : Sweeping p mid s j action stamp (set-of c) (s .count + 1) now) where
+  mid-others : Others s j rows mid
+  mid-others = subst (Others s j rows) (sym put) (cut-others rows s j 0 c (u .room) (u .there) (omega arith))
+
+  now-others : Others s j rows now
+  now-others k i x z = w .others k i x z ∙ mid-others k i x z
+
+  -- the open inputs, and the old sets behind them
+  held-mid : (i : ℕ) → i < s .count → held-at mid s j i ≡ held-at rows s j i
+  held-mid i h =
+      ap₂ (λ (l : Line) (x : Lengths). record { line = l; after = x })
+      (line-kept s j rows mid mid-others i)
+      (ap set-of
+      (ap (λ (r : List (List ℕ)). cut-at r s j (suc i)) put
+      ∙ cut-there rows s j 0 c (u .room) (u .there) (omega arith) (suc i) (omega (arith, u .room .few)) (λ (e : suc i ≡ 0). omega arith)))
+
+  tall : length now ≡ length rows
+  tall = w .tall ∙ ap length put ∙ cut-tall rows s j 0 c (u .room) (u .there) (omega arith)
+
+  pub rows-swept : Swept p s j action stamp rows now
+  rows-swept =
       record {
-        tall = w .tall;
-        others = w .others;
+        tall = tall;
+        others = now-others;
         holds =
             record {
               front =
                   ap₂ (λ (x : Lengths) (l : List (Held Lengths)). record { before = x; held = l })
-                  (w .swept 0 (omega arith) ∙ sym new-set-none)
-                  (first-same (held-at now s j) (λ i. record { line = line-at rows s i; after = new-set (suc i) }) (s .count)
-                  (λ i h. ap₂ (λ (l : Line) (x : Lengths). record { line = l; after = x }) (line-kept s j rows now (w .others) i) (w .swept (suc i) (omega arith)))
-                  ∙ sym (swept-first (meant p) (lengths (meant p)) y (moved (meant p) (set-at rows s j 0) y) (held-at rows s j) (s .count)));
+                  (w .swept 0 (omega arith) ∙ sym (new-set-none p mid s j action stamp (set-of c)) ∙ head)
+                  (first-same (held-at now s j) (λ i. record { line = line-at mid s i; after = new-set p mid s j action stamp (set-of c) (suc i) }) (s .count)
+                  (λ i h. ap₂ (λ (l : Line) (x : Lengths). record { line = l; after = x }) (line-kept s j mid now (w .others) i) (w .swept (suc i) (omega arith)))
+                  ∙ sym (swept-first (meant p) (lengths (meant p)) (line-of true action stamp) (set-of c) (held-at mid s j) (s .count))
+                  ∙ ap₂ (swept (meant p) (lengths (meant p)) (line-of true action stamp)) head (first-same (held-at mid s j) (held-at rows s j) (s .count) held-mid));
               usable =
                   record {
                     formed = u .formed;
                     room = w .room;
-                    there = subst (λ (n : ℕ). 3 + 2 * j < n) (sym (w .tall)) (u .there);
-                    stamps = λ i h. subst (λ (l : Line). l .stamp ≤ last-stamp) (sym (line-kept s j rows now (w .others) i)) (u .stamps i h);
+                    there = subst (λ (n : ℕ). 3 + 2 * j < n) (sym tall) (u .there);
+                    stamps = λ i h. subst (λ (l : Line). l .stamp ≤ last-stamp) (sym (line-kept s j rows now now-others i)) (u .stamps i h);
                     fits = λ i h. w .fits i (omega arith);
                   };
             };

@@ -96,7 +96,8 @@ fn swept_cut(
     behind
 }
 
-// An output goes through the cuts of property j.
+// An output goes through the cuts of property j. A turn reads and stores at one index alone, so that its place is found once: the open
+// input before the next cut is read a turn ahead.
 pub fn sweep(
     p: Property,
     table: &Table,
@@ -111,17 +112,19 @@ pub fn sweep(
 {
     let count = span.count;
     let mut cut = matcher::moved(p, table, cut_at(rows, span, j, 0), true, action);
+    put_cut(rows, span, j, 0, cut);
+    let mut held = rows::word(rows, span, 0, 0);
+    let mut input = rows::word(rows, span, 1, 0);
     let mut i = 0;
     while i < count {
-        let after = cut_at(rows, span, j, i + 1);
-        let held = rows::word(rows, span, 0, i);
-        let input = rows::word(rows, span, 1, i);
-        let next = swept_cut(p, table, action, stamp, held, input, cut, after);
-        put_cut(rows, span, j, i, cut);
-        cut = next;
-        i += 1;
+        let next = i + 1;
+        let after = cut_at(rows, span, j, next);
+        cut = swept_cut(p, table, action, stamp, held, input, cut, after);
+        put_cut(rows, span, j, next, cut);
+        held = rows::word(rows, span, 0, next);
+        input = rows::word(rows, span, 1, next);
+        i = next;
     }
-    put_cut(rows, span, j, count, cut);
 }
 
 // A new input comes last: one more cut of property j behind it.
@@ -151,7 +154,7 @@ pub fn take_line(
     requires { ⌜ Closes (p .ub) (now rows) span stamp closed × (stamp ≤ last-stamp) × (output ≡ false → span .count - closed < 64) ⌝ }
     ensures { λ r. ⌜ Holds p (front-after p (front-of (now (rows .entry)) span 0) (line-of output action stamp)) (now (rows .exit)) r 0 ⌝ }
 {
-    let left = rows::dropped(rows, span, closed);
+    let left = rows::shorter(span, closed);
     if output {
         sweep(p, table, rows, left, 0, action, stamp);
         return left;

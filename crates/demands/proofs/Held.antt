@@ -4,7 +4,7 @@ use mathlib.Core.Path.{_≡_, refl, sym, _∙_, ap, subst}
 use mathlib.Core.Bool.{Bool, true, false, cond, not, _&&_, _||_}
 use mathlib.Core.List.{List, [], _∷_, _++_, map}
 use native.Mathlib.Omega.{arith}
-use lib.ListN.{length, length-map, getD}
+use lib.ListN.{length, length-map}
 use lib.Dec.{T, leb, ltb, eqb, leb→le, nleb→lt}
 use Rattle.laws.specs.Places.{padded, some-below}
 use Rattle.meaning.specs.Words.{action-number, Line}
@@ -26,6 +26,7 @@ use Rattle.rows.specs.Rows.{place, word}
 use Rattle.session_record.specs.declared.Session.{Session}
 use Rattle.session_record.specs.Record.{record-of, out-of-range}
 use Rattle.session_record.proofs.Running.{running-record}
+use Rattle.demands.specs.Ring.{start-of, count-of, at}
 use Rattle.demands.specs.Called.{open-inputs, held-inputs, held-stamps, held-actions}
 use Rattle.demands.proofs.Running.{running, seen}
 
@@ -65,6 +66,7 @@ module _ (p : Property) (good : property-refusal (meant p) ≡ 0) where
     pub property : s .property ≡ p
     pub latest : s .shared .status .clock .latest ≡ w .clock .latest
     pub blind : s .shared .status .clock .blind ≡ w .clock .is-blind
+    pub start : s .shared .status .span .start ≡ 0
     pub count : s .shared .status .span .count ≡ length (held-inputs (meant p) w)
     pub stamps : s .shared .held ≡ held-stamps (held-inputs (meant p) w)
     pub actions : s .shared .acts ≡ held-actions (held-inputs (meant p) w)
@@ -77,27 +79,28 @@ module _ (p : Property) (good : property-refusal (meant p) ≡ 0) where
         property = refl;
         latest = refl;
         blind = refl;
+        start = refl;
         count = sym (ap length opened ∙ length-map (f .held) _);
         stamps = ap (padded 65 0) (told-lines (λ (l : Line). l .stamp) (f .held) ∙ ap (map (λ (l : Line). l .stamp)) (sym opened));
         actions = ap (padded 65 0) (told-lines (λ (l : Line). action-number (l .action)) (f .held) ∙ ap (map (λ (l : Line). action-number (l .action))) (sym opened));
       }
-  holds (blind clock) = record { property = refl; latest = refl; blind = refl; count = refl; stamps = refl; actions = refl }
+  holds (blind clock) = record { property = refl; latest = refl; blind = refl; start = refl; count = refl; stamps = refl; actions = refl }
 
   pub running-holds : (calls : List Call) → Holds (seen p good calls) (running p good calls)
   running-holds calls = subst (Holds (seen p good calls)) (sym (running-record p good calls)) (holds (grown-agrees R calls))
 
 -- 10: "a property that 1, 2 or 3 would refuse, over 64 held stamps, held stamps out of order or past the latest, held stamps while blind,
 -- latest past the limit, a matched length above the sequence's" (bit k of a cut's mask is for length k, bit k + 1 of its other word for the
--- same, armed).
+-- same, armed); "Refusal 10 also covers a start or count out of range."
 pub demand-10 : (s : Session)
     → out-of-range s
     ≡ not (eqb (property-refusal (meant (s .property))) 0)
-    || ltb 64 (s .shared .status .span .count)
-    || some-below (s .shared .status .span .count)
-    (λ i. ltb (cond (ltb (suc i) (s .shared .status .span .count)) (getD (s .shared .held) (suc i) 0) (s .shared .status .clock .latest)) (getD (s .shared .held) i 0))
-    || s .shared .status .clock .blind && ltb 0 (s .shared .status .span .count)
+    || ltb 64 (start-of s)
+    || ltb 64 (count-of s)
+    || some-below (count-of s) (λ i. ltb (cond (ltb (suc i) (count-of s)) (at s (s .shared .held) (suc i)) (s .shared .status .clock .latest)) (at s (s .shared .held) i))
+    || s .shared .status .clock .blind && ltb 0 (count-of s)
     || ltb 1_099_511_627_775 (s .shared .status .clock .latest)
     || not (s .shared .status .clock .blind)
-    && some-to (s .shared .status .span .count) (λ i. leb (2 ^ suc (s .property .n)) (getD (s .row .masks) i 0) || leb (2 ^ suc (suc (s .property .n))) (getD (s .row .armed) i 0))
+    && some-to (count-of s) (λ i. leb (2 ^ suc (s .property .n)) (at s (s .row .masks) i) || leb (2 ^ suc (suc (s .property .n))) (at s (s .row .armed) i))
 unfolding out-of-range word place stray
 demand-10 s = refl

@@ -7,6 +7,7 @@ pub mod Uses
 pub mod Lost
 pub mod Called
 pub mod Held
+pub mod Ring
 pub mod Judged
 pub mod Judging
 pub mod Written

@@ -42,6 +42,6 @@ abbrev pub zero-session : Session
 zero-session =
     record {
       property = zero-property;
-      shared = record { held = zero-words; acts = zero-words; status = record { span = record { count = 0 }; clock = record { latest = 0; blind = false } } };
+      shared = record { held = zero-words; acts = zero-words; status = record { span = record { start = 0; count = 0 }; clock = record { latest = 0; blind = false } } };
       row = record { masks = zero-words; armed = zero-words };
     }

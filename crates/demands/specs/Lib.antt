@@ -1,6 +1,7 @@
 -- The words in which the demands speak of calls, packed forms, traces, what is printed, names and orders.
 pub mod Refuses
 pub mod Called
+pub mod Ring
 pub mod Packed
 pub mod Texts
 pub mod Lost

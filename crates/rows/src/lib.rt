@@ -1,18 +1,21 @@
 // The rows that a session lends, each of 65 words: row 0 has the stamps of the open inputs, row 1 the numbers of their actions, rows 2 + 2j
-// and 3 + 2j the two words of each cut of property j, one before each open input and one after all. Where an index stands in a row is said
-// here and nowhere else.
-ghost use Prim.Native.Nat.{_+_, _-_, _≤_, _<_};
+// and 3 + 2j the two words of each cut of property j, one before each open input and one after all. The places of a row are a ring: behind
+// the last comes the first. Where an index stands in a row is said here and nowhere else.
+ghost use Prim.Native.Nat.{_+_, _≤_, _<_};
 ghost use mathlib.Core.Path.{_≡_};
-ghost use mathlib.Core.List.{[]};
-ghost use lib.ListN.{length, getD};
-ghost use Rattle.rows.specs.Rows.{Room, Lowered, Dropped};
+ghost use lib.ListN.{length};
+ghost use Rattle.rows.specs.Rows.{last-place, Within, Room};
 ghost use Rattle.rows.specs.Rows;
+
+// "there are never more than sixty-five cuts to hold"
+pub const LAST_PLACE: usize = 64;
 
 // A row.
 pub type Words = [u64; 65];
 
-// Which places of the rows are in use: those of so many open inputs.
+// Which places of the rows are in use: those of so many open inputs, and one more, from this one on.
 pub struct Span {
+    pub start: usize,
     pub count: usize,
 }
 
@@ -20,7 +23,22 @@ pub struct Span {
 pub fn spanning(count: usize) -> Span
     ensures { λ r. ⌜ r ≡ Rows.spanning count ⌝ }
 {
-    Span { count: count }
+    Span {
+        start: 0,
+        count: count,
+    }
+}
+
+// Where index i stands: behind the last place comes the first.
+fn place(span: Span, i: usize) -> usize
+    requires { ⌜ (span .start ≤ last-place) × (i ≤ last-place) ⌝ }
+    ensures { λ r. ⌜ (r ≡ Rows.place span i) × (r ≤ last-place) ⌝ }
+{
+    let p = span.start + i;
+    if p <= LAST_PLACE {
+        return p;
+    }
+    p - 65
 }
 
 // One open input more, behind the others.
@@ -29,16 +47,20 @@ pub fn longer(span: Span) -> Span
     ensures { λ r. ⌜ r ≡ Rows.longer span ⌝ }
 {
     Span {
+        start: span.start,
         count: span.count + 1,
     }
 }
 
-// Where index i stands.
-fn place(span: Span, i: usize) -> usize
-    requires { ⌜ i ≤ 64 ⌝ }
-    ensures { λ r. ⌜ (r ≡ Rows.place span i) × (r ≤ 64) ⌝ }
+// The first d open inputs and the cuts before them give their places up: nothing is moved.
+pub fn shorter(span: Span, d: usize) -> Span
+    requires { ⌜ Within span × (d ≤ span .count) ⌝ }
+    ensures { λ r. ⌜ r ≡ Rows.shorter span d ⌝ }
 {
-    i
+    Span {
+        start: place(span, d),
+        count: span.count - d,
+    }
 }
 
 // The word at index i of row k.
@@ -57,34 +79,4 @@ pub fn put(rows: &mut [Words], span: Span, k: usize, i: usize, v: u64)
 {
     let p = place(span, i);
     rows[k][p] = v;
-}
-
-// The words of row k move down by d places, those up to place `last`.
-fn lower(rows: &mut [Words], k: usize, last: usize, d: usize)
-    requires { ⌜ (k < length (now rows)) × (length (getD (now rows) k []) ≡ 65) × (last ≤ 64) × (d ≤ last) ⌝ }
-    ensures { λ _. ⌜ Lowered k (last - d + 1) d (now (rows .entry)) (now (rows .exit)) ⌝ }
-{
-    let left = last - d;
-    let mut i = 0;
-    while i <= left {
-        rows[k][i] = rows[k][d + i];
-        i += 1;
-    }
-}
-
-// The first d open inputs and the cuts before them give their places up.
-pub fn dropped(rows: &mut [Words], span: Span, d: usize) -> Span
-    requires { ⌜ Room (now rows) span × (d ≤ span .count) ⌝ }
-    ensures { λ r. ⌜ Dropped span d (now (rows .entry)) (now (rows .exit)) r ⌝ }
-{
-    if d == 0 {
-        return span;
-    }
-    let count = span.count;
-    let mut k = 0;
-    while k < rows.len() {
-        lower(rows, k, count, d);
-        k += 1;
-    }
-    Span { count: count - d }
 }

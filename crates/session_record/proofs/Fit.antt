@@ -26,7 +26,7 @@ use Rattle.property.specs.declared.Property.{Property}
 use Rattle.matcher.specs.Sets.{Short}
 use Rattle.matcher.proofs.Words.{fits-short, none-short, start-short, either-short, moved-short}
 use Rattle.rows.specs.declared.Span.{Span}
-use Rattle.rows.specs.Rows.{spanning, word}
+use Rattle.rows.specs.Rows.{last-place, spanning, word}
 use Rattle.clock.specs.Time.{clock-of}
 use Rattle.cuts.specs.Steps.{front-after, front-fresh, front-none, fresh-by, refusal-by, taken-by, next-by}
 use Rattle.cuts.specs.Fronts.{cut-at, held-at, front-of}
@@ -139,7 +139,7 @@ module _ (p : Property) (good : property-refusal (meant p) ≡ 0) where
         (neither
         (neither
         (neither
-        (neither (ap not (eq-eqb (property-refusal (meant p)) 0 good)) (le-ltb most-open (length (c .front .held)) (f .few)))
+        (neither (neither (ap not (eq-eqb (property-refusal (meant p)) 0 good)) (le-ltb last-place 0 (omega arith))) (le-ltb most-open (length (c .front .held)) (f .few)))
         (none-below (length (c .front .held)) _ no-fall))
         (empty-blind (c .clock .is-blind) refl))
         (le-ltb last-stamp (c .clock .latest) (f .limit)))

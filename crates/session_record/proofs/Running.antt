@@ -18,7 +18,7 @@ use Rattle.session_record.specs.declared.Session.{Session}
 use Rattle.session_record.specs.declared.Stepped.{Stepped}
 use Rattle.session_record.specs.Record.{record-of, out-of-range}
 use Rattle.session_record.specs.Step.{answer-of, no-session, fresh-of, stepped-of, stepped-through}
-use Rattle.session_record.proofs.Range.{crowded, fallen, held-blind, late, too-long, range-tests}
+use Rattle.session_record.proofs.Range.{outside, crowded, fallen, held-blind, late, too-long, range-tests}
 use Rattle.session_record.proofs.Steps.{named-refused, fresh-refused, fresh-taken}
 use Rattle.session_record.proofs.Grown.{step-over, grown-record, grown-step}
 
@@ -41,8 +41,8 @@ module _ (p : Property) (good : property-refusal (meant p) ≡ 0) where
 -- The session of zeros is one that refusal 10 names: its property has no action.
 pub zeros-named : out-of-range no-session ≡ true
 zeros-named =
-    range-tests no-session true (crowded no-session) (fallen no-session) (held-blind no-session) (late no-session) (too-long no-session)
-    (ap not (ne-eqb (property-refusal (meant zeros)) 0 (λ e. none (sym (length-refused zeros refl) ∙ e)))) refl refl refl refl refl
+    range-tests no-session true (outside no-session) (crowded no-session) (fallen no-session) (held-blind no-session) (late no-session) (too-long no-session)
+    (ap not (ne-eqb (property-refusal (meant zeros)) 0 (λ e. none (sym (length-refused zeros refl) ∙ e)))) refl refl refl refl refl refl
   where
     none : _≡_ {A = ℕ} 1 0 → ⊥
     none e = omega arith

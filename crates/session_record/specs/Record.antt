@@ -12,7 +12,7 @@ use Rattle.property.specs.Meant.{meant}
 use Rattle.property.specs.declared.Property.{Property}
 use Rattle.matcher.specs.Sets.{stray}
 use Rattle.rows.specs.declared.Span.{Span}
-use Rattle.rows.specs.Rows.{spanning}
+use Rattle.rows.specs.Rows.{last-place, spanning}
 use Rattle.clock.specs.Time.{clock-of, stored-clock}
 use Rattle.held.specs.declared.Status.{Status}
 use Rattle.held.specs.Held.{stamps-fall}
@@ -26,6 +26,9 @@ rows-of s = s .shared .held ∷ s .shared .acts ∷ s .row .masks ∷ s .row .ar
 
 abbrev pub span-of : Session → Span
 span-of s = s .shared .status .span
+
+abbrev pub start-of : Session → ℕ
+start-of s = span-of s .start
 
 abbrev pub count-of : Session → ℕ
 count-of s = span-of s .count
@@ -45,7 +48,7 @@ cuts-in p rows status =
 abbrev pub cuts-of : Session → Cuts Lengths
 cuts-of s = cuts-in (s .property) (rows-of s) (s .shared .status)
 
--- The record of a session over cuts; places not in use are 0.
+-- The record of a session over cuts: it starts at the first place, and places not in use are 0.
 abbrev pub record-of : Property → Cuts Lengths → Session
 record-of p c =
     record {
@@ -64,10 +67,12 @@ abbrev pub length-above : List (List ℕ) → Span → ℕ → Bool
 length-above rows s n = some-to (s .count) (λ i. stray n (cut-at rows s 0 i))
 
 -- "10: a session record with values out of range: a property that 1, 2 or 3 would refuse, over 64 held stamps, held stamps
--- out of order or past the latest, held stamps while blind, latest past the limit, a matched length above the sequence's".
+-- out of order or past the latest, held stamps while blind, latest past the limit, a matched length above the sequence's"; document 02,
+-- CR 9: "Refusal 10 also covers a start or count out of range."
 unfoldable pub out-of-range : Session → Bool
 out-of-range s =
     not (eqb (property-refusal (meant (s .property))) 0)
+    || ltb last-place (start-of s)
     || ltb most-open (count-of s)
     || stamps-fall (rows-of s) (span-of s) (latest-of s)
     || blind-of s && ltb 0 (count-of s)

@@ -17,6 +17,7 @@ use limits::LAST_STAMP;
 use limits::MOST_OPEN;
 use matcher::Cut;
 use property::Property;
+use rows::LAST_PLACE;
 use rows::Span;
 use rows::Words;
 
@@ -75,6 +76,9 @@ pub fn unfit(s: Session) -> bool
     let status = shared.status;
     let span = status.span;
     let clock = status.clock;
+    if LAST_PLACE < span.start {
+        return true;
+    }
     if MOST_OPEN < span.count {
         return true;
     }
