@@ -8,6 +8,8 @@ through the printing program, every line compared; through one walk of the conso
 place; and through the judge. Then session records that begin at each of the 65 places, with something in the places not in use,
 get lines, marks and walks, taken and refused, by the checks of tests/calls.py. They are records that a walk gave back, with 0 to 64
 inputs open."""
+import functools
+import itertools
 import os
 import random
 import subprocess
@@ -23,32 +25,38 @@ LINES = 3000
 MOST_BYTES = 524_287  # of one script
 
 
-def drawn_property(rng):
-    """Mostly one whose sequence is hard to match, so that a run of thousands of lines is clear for long."""
-    size = rng.choice([1, 2, 6, 32])
-    sequence = [(rng.random() < .3, rng.randrange(3)) for _ in range(size)]
+def drawn_property(rng, size):
+    """A sequence that repeats one, two or three inputs, so that many lengths are matched at once; outputs 0 and 1 are allowed."""
+    part = [(False, rng.randrange(2)) for _ in range(rng.randint(1, 3))]
     lower = rng.randint(1, 500)
-    return rules.Property(sequence, 0b1011, lower, lower + rng.randint(0, 2000))
+    return rules.Property((part * size)[:size], 0b0011, lower, lower + rng.randint(100, 2000))
 
 
-def crowd(rng, p, lines):
-    """Records of a log with 60 to 64 inputs open at most of its lines. Where there is no room some are closed, mostly one, now and
-    then many or all; a gap mark is rare."""
-    records, held, latest = [], [], 0
+def crowd(rng, p, lines, breaches):
+    """Records of a log with 60 to 64 inputs open at most of its lines, and the session after each. Where there is no room some are closed, mostly
+    one, now and then many or all. Inputs mostly follow the sequence, again and again. With `breaches` there are outputs outside the set, and
+    a run that has not been clear for a while is closed by a gap mark; without them one run goes on to the end."""
+    records, sessions, inputs = [], [rules.FRESH], itertools.cycle(act for _, act in p.sequence)
+
+    def take(*record):
+        records.append(record)
+        sessions.append(rules.after_record(p, sessions[-1], *record))
+
     while len(records) < lines:
-        kind = rng.choice([rules.INPUT, rules.INPUT, rules.OUTPUT]) if len(held) > 50 else rules.INPUT
-        stamp = latest + rng.choice([0, 0, 0, 1, 2])
-        if kind == rules.INPUT and sum(at + 2 * p.ub >= stamp for at in held) == rules.MOST_OPEN:
+        w = sessions[-1]
+        kind = rng.choice([rules.INPUT, rules.INPUT, rules.OUTPUT]) if len(w.held) > 50 else rules.INPUT
+        stamp = w.latest + rng.choice([0, 0, 0, 1, 2])
+        if kind == rules.INPUT and sum(at + 2 * p.ub >= stamp for at, _ in w.held) == rules.MOST_OPEN:
             closing = rng.choice([0] * 150 + [1] * 30 + [2, 3, 20, 63])
-            stamp = held[closing] + 2 * p.ub + 1
-        if rng.random() < .0005:
-            records += [(rules.GAP, rng.randrange(64), stamp), (rules.INPUT, 0, stamp + 2 * p.ub + 1)]
-            held, latest = [records[-1][2]], records[-1][2]
-            continue
-        held = [at for at in held if at + 2 * p.ub >= stamp] + [stamp] * (kind == rules.INPUT)
-        records.append((kind, rng.randrange(3), stamp))
-        latest = stamp
-    return records
+            stamp = w.held[closing][0] + 2 * p.ub + 1
+        if rules.standing(w) in (rules.SUSPECT, rules.CERTAIN) and rng.random() < .02:
+            take(rules.GAP, rng.randrange(64), stamp)
+            take(rules.INPUT, 0, stamp + 2 * p.ub + 1)
+        else:
+            strays = rng.random() < .7 / len(p.sequence)
+            action = rng.randrange(2) if strays or kind == rules.OUTPUT else next(inputs)
+            take(kind, 2 if kind == rules.OUTPUT and breaches and rng.random() < .01 else action, stamp)
+    return records, sessions[1:]
 
 
 def packed(records):
@@ -59,13 +67,10 @@ def packed(records):
     return data
 
 
-def gone_through(p, records):
-    """The rows of the listing, and the session after the last record."""
-    w, rows = rules.FRESH, []
-    for number, (kind, action, stamp) in enumerate(records, 1):
-        w = rules.after_record(p, w, kind, action, stamp)
-        rows.append("%d %s %d %d %s %d" % (number, "IOG"[kind], action, stamp, rules.WORDS[rules.standing(w)], len(w.held)))
-    return rows, w
+def rows_of(records, sessions):
+    """The rows of the listing."""
+    return ["%d %s %d %d %s %d" % (number, "IOG"[kind], action, stamp, rules.WORDS[rules.standing(w)], len(w.held))
+            for number, ((kind, action, stamp), w) in enumerate(zip(records, sessions), 1)]
 
 
 def record_of_property(p):
@@ -163,23 +168,28 @@ def main():
     rng = random.Random(int(sys.argv[2]) if len(sys.argv) > 2 else 20260109)
     program = logs.listing_command()
     console = Console(program[:-1] + [os.path.join(os.path.dirname(program[-1]), "calls")])
-    crowded = 0
-    for _ in range(count):
-        p = drawn_property(rng)
-        records = crowd(rng, p, LINES)
-        rows, w = gone_through(p, records)
-        crowded += sum(int(row.split()[-1]) >= 60 for row in rows)
+    crowded, verdicts = 0, [0] * 4
+    for i in range(count):
+        p = drawn_property(rng, (1, 2, 6, 32)[i % 4])
+        records, sessions = crowd(rng, p, LINES, i % 2 == 0)
+        for w in sessions:
+            crowded += len(w.held) >= 60
+            verdicts[rules.standing(w)] += 1
         trace = packed(records)
-        compare_listing(program, p, trace, rows)
-        F(record_of_property(p))
-        walk(trace, len(records), w, record_of_property(p))
-        L("!2", w.latest)
-        J(rules.pack_property(p), trace + rules.END_RECORD, 0, rules.standing(w), len(records))
+        compare_listing(program, p, trace, rows_of(records, sessions))
+        # walks that stop early too, since at the end the last cuts may have little to tell
+        for size in (len(records), rng.randrange(LINES), rng.randrange(LINES)):
+            w = sessions[size - 1] if size else rules.FRESH
+            F(record_of_property(p))
+            walk(trace, size, w, record_of_property(p))
+            L("!2", w.latest)
+        J(rules.pack_property(p), trace + rules.END_RECORD, 0, rules.standing(sessions[-1]), len(records))
         console.run()
     for size in (0, 1, 2, 31, 63, 64):
         p = rules.Property([(False, 0), (False, 1)], 0b10, 3, 400)
         records = [(rules.INPUT, rng.randrange(2), 100 + 5 * i) for i in range(size)] + [(rules.OUTPUT, rng.choice([1, 1, 2]), 110 + 5 * size)]
-        each_place(rng, calls.record_of(record_of_property(p), gone_through(p, records)[1]), range(PLACES))
+        w = functools.reduce(lambda w, record: rules.after_record(p, w, *record), records, rules.FRESH)
+        each_place(rng, calls.record_of(record_of_property(p), w), range(PLACES))
         console.run()
     each_place(rng, calls.session(calls.B, masks=(), latest=100, blind=1), range(PLACES))
     console.run()
@@ -189,7 +199,8 @@ def main():
         G(100, 10)
         W(0, b"", 0, REFUSED, 10)
     console.run()
-    print("ring: %d logs of %d lines, %d lines with 60 inputs open or more; %d calls; 0 differences" % (count, LINES, crowded, console.calls))
+    told = ", ".join("%s %d" % (word, n) for word, n in zip(rules.WORDS, verdicts))
+    print("ring: %d logs of %d lines, 60 inputs or more open after %d (%s); %d calls; 0 differences" % (count, LINES, crowded, told, console.calls))
 
 
 main()
