@@ -24,9 +24,10 @@ use Rattle.rows.specs.Rows.{spanning, none, Within, Room}
 use Rattle.clock.specs.declared.Clock.{Clock}
 use Rattle.cuts.specs.Steps.{front-none, fresh-by}
 use Rattle.cuts.specs.Fronts.{cut-at, set-at, held-at, front-of, sets-of}
+use Rattle.session_record.specs.declared.Pair.{Pair}
 use Rattle.session_record.specs.Record.{record-of}
 use Rattle.session_record.specs.Step.{no-session}
-use Rattle.session_record.specs.Lent.{Memory, held-in, record-in, Ready, of-arrays, packed, packed-of, blank}
+use Rattle.session_record.specs.Lent.{Memory, held-in, record-in, Ready, of-arrays, packed-pair, packed-of, blank}
 
 -- Four rows, each with its places.
 pub four-room : (a b c d : List ℕ) → length a ≡ 65 → length b ≡ 65 → length c ≡ 65 → length d ≡ 65 → (s : Span) → Within s → Room (a ∷ b ∷ c ∷ d ∷ []) s
@@ -45,11 +46,12 @@ filled-padded w g n r f =
     padded-is 0 r (first g n) g n w refl (f .long ∙ length-replicate {A = ℕ} w 0) (λ i h. f .inside i (omega arith) h)
     (λ i h. f .above i h ∙ getD-repeat 0 w i)
 
--- The record of rows, array by array.
-pub packed-made : (p : Property) (rows : List (List ℕ)) (s s′ : Span) (cuts : ℕ) (clock : Clock) (held acts masks armed : List ℕ) → s′ ≡ spanning (s .count)
-    → held ≡ packed rows s 0 (s .count) → acts ≡ packed rows s 1 (s .count) → masks ≡ packed rows s 2 cuts → armed ≡ packed rows s 3 cuts
-    → of-arrays p held acts masks armed (record { span = s′; clock = clock }) ≡ packed-of p rows s cuts clock
-packed-made p rows s s′ cuts clock held acts masks armed e h a m r = λ i. of-arrays p (h i) (a i) (m i) (r i) (record { span = e i; clock = clock })
+-- The record of rows, pair by pair.
+pub packed-made : (p : Property) (rows : List (List ℕ)) (s s′ : Span) (cuts : ℕ) (clock : Clock) (inputs words : Pair) → s′ ≡ spanning (s .count)
+    → inputs ≡ packed-pair rows s 0 (s .count) → words ≡ packed-pair rows s 2 cuts
+    → of-arrays p (inputs .first) (inputs .second) (words .first) (words .second) (record { span = s′; clock = clock }) ≡ packed-of p rows s cuts clock
+packed-made p rows s s′ cuts clock inputs words e h w =
+    λ i. of-arrays p (h i .first) (h i .second) (w i .first) (w i .second) (record { span = e i; clock = clock })
 
 module _ (m : Memory) (ready : Ready m) where
   abbrev rows : List (List ℕ)
@@ -65,7 +67,7 @@ module _ (m : Memory) (ready : Ready m) where
       (ap (map h) (map-first (λ (x : Held Lengths). x .after) (held-at rows s 0) (s .count)) ∙ map-first h (λ i. set-at rows s 0 (suc i)) (s .count))
 
   -- While a run is open, all its cuts are in use,
-  pub packed-open : m .status .clock .blind ≡ false → (n : ℕ) → n ≡ s .count + 1 → packed-of (m .property) rows s n (m .status .clock) ≡ record-in m
+  packed-open : m .status .clock .blind ≡ false → (n : ℕ) → n ≡ s .count + 1 → packed-of (m .property) rows s n (m .status .clock) ≡ record-in m
   packed-open b n e =
       (λ i.
       of-arrays (m .property)
@@ -87,9 +89,19 @@ module _ (m : Memory) (ready : Ready m) where
           ∙ sym (sets-first (λ (x : Lengths). w (cut-of x)))
 
   -- and while blind none.
-  pub packed-blind : m .status .clock .blind ≡ true → packed-of (m .property) rows none 0 (m .status .clock) ≡ record-in m
+  packed-blind : m .status .clock .blind ≡ true → packed-of (m .property) rows s 0 (m .status .clock) ≡ record-in m
   unfolding first cut-of mask-to
-  packed-blind b = ap (λ (x : Bool). record-of (m .property) (record { clock = held-in m .clock; front = cond x (front-none (m .property)) (front-of rows s 0) })) (sym b)
+  packed-blind b =
+      (λ i. packed-of (m .property) rows (record { start = s .start; count = ready .ranged .none-blind b i }) 0 (m .status .clock))
+      ∙ ap (λ (x : Bool). record-of (m .property) (record { clock = held-in m .clock; front = cond x (front-none (m .property)) (front-of rows s 0) })) (sym b)
+
+  -- So the record is that of so many cuts.
+  pub packed-in : (n : ℕ) → n ≡ cond (m .status .clock .blind) 0 (s .count + 1) → packed-of (m .property) rows s n (m .status .clock) ≡ record-in m
+  packed-in n e = go (m .status .clock .blind) refl
+    where
+      go : (b : Bool) → m .status .clock .blind ≡ b → packed-of (m .property) rows s n (m .status .clock) ≡ record-in m
+      go true q = ap (λ (k : ℕ). packed-of (m .property) rows s k (m .status .clock)) (e ∙ ap (λ (x : Bool). cond x 0 (s .count + 1)) q) ∙ packed-blind q
+      go false q = packed-open q n (e ∙ ap (λ (x : Bool). cond x 0 (s .count + 1)) q)
 
 -- The record of a fresh session, and that of zeros.
 pub blank-fresh : (p : Property) → blank p (cut-of at-start) ≡ record-of p (fresh-by p)

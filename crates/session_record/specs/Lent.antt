@@ -1,5 +1,5 @@
 -- Calls on lent memory: what it means, and what is promised of it.
-use Prim.Native.Nat.{ℕ, suc, _≤_, _<_}
+use Prim.Native.Nat.{ℕ, suc, _+_, _≤_, _<_}
 use mathlib.Core.Path.{_≡_}
 use mathlib.Core.Bool.{true, false}
 use mathlib.Core.List.{List, _∷_}
@@ -24,6 +24,7 @@ use Rattle.cuts.specs.Fronts.{cut-at, Holds}
 use Rattle.session_record.specs.declared.Session.{Session}
 use Rattle.session_record.specs.declared.Answer.{Answer}
 use Rattle.session_record.specs.declared.Reply.{Reply}
+use Rattle.session_record.specs.declared.Pair.{Pair}
 use Rattle.session_record.specs.Record.{rows-of, cuts-in, record-of}
 use Rattle.session_record.specs.Step.{answer-of, stepped-of}
 
@@ -90,6 +91,9 @@ of-arrays p held acts masks armed status =
 -- The record of rows, of which so many cuts are in use.
 abbrev pub packed : List (List ℕ) → Span → ℕ → ℕ → List ℕ
 packed rows s k n = padded 65 0 (first (word rows s k) n)
+
+abbrev pub packed-pair : List (List ℕ) → Span → ℕ → ℕ → Pair
+packed-pair rows s k n = record { first = packed rows s k n; second = packed rows s (k + 1) n }
 
 abbrev pub packed-of : Property → List (List ℕ) → Span → ℕ → Clock → Session
 packed-of p rows s cuts clock =

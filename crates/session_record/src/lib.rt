@@ -1,13 +1,14 @@
 // The session record, which the caller keeps; the rows of it that are lent, and the way back; what calls on it give back; refusal 10.
-ghost use Prim.Native.Nat.{_≤_, _<_};
+ghost use Prim.Native.Nat.{_+_, _≤_, _<_};
 ghost use mathlib.Core.Path.{_≡_};
+ghost use mathlib.Core.Bool.{cond};
 ghost use lib.ListN.{length};
 ghost use Rattle.meaning.specs.Calls;
 ghost use Rattle.rows.specs.declared.Span.{Span};
 ghost use Rattle.rows.specs.Rows.{Within, Room};
 ghost use Rattle.session_record.specs.Record.{rows-of, out-of-range};
 ghost use Rattle.session_record.specs.Step.{answer-of};
-ghost use Rattle.session_record.specs.Lent.{memory, record-in, Ready, of-arrays, packed-of};
+ghost use Rattle.session_record.specs.Lent.{memory, record-in, Ready, of-arrays, packed-pair, packed-of};
 ghost use Rattle.session_record.specs.Lent;
 use clock::Clock;
 use cuts::Row;
@@ -95,18 +96,29 @@ pub fn unfit(s: Session) -> bool
     cuts::strays(&rows, span, 0, p.n)
 }
 
-// The first n words of row k, and zeros behind them.
-fn packed(rows: &[Words], span: Span, k: usize, n: usize) -> Words
-    requires { ⌜ Room (now rows) span × (k < length (now rows)) × (n ≤ 65) ⌝ }
-    ensures { λ r. ⌜ r ≡ Lent.packed (now (rows .entry)) span k n ⌝ }
+// Two rows, from the first place on: of the open inputs, or of the cuts.
+pub struct Pair {
+    pub first: Words,
+    pub second: Words,
+}
+
+// The first n words of rows k and k + 1, and zeros behind them. Both in one loop, so that a place is found once.
+fn packed(rows: &[Words], span: Span, k: usize, n: usize) -> Pair
+    requires { ⌜ Room (now rows) span × (k + 1 < length (now rows)) × (n ≤ 65) ⌝ }
+    ensures { λ r. ⌜ r ≡ packed-pair (now (rows .entry)) span k n ⌝ }
 {
-    let mut r = [0u64; 65];
+    let mut first = [0u64; 65];
+    let mut second = [0u64; 65];
     let mut i = 0;
     while i < n {
-        r[i] = rows::word(rows, span, k, i);
+        first[i] = rows::word(rows, span, k, i);
+        second[i] = rows::word(rows, span, k + 1, i);
         i += 1;
     }
-    r
+    Pair {
+        first: first,
+        second: second,
+    }
 }
 
 // The record of arrays and what stands beside them, as they are.
@@ -141,15 +153,28 @@ fn stored(p: Property, rows: &[Words], span: Span, cuts: usize, clock: Clock) ->
     requires { ⌜ Room (now rows) span × (3 < length (now rows)) × (cuts ≤ 65) ⌝ }
     ensures { λ r. ⌜ r ≡ packed-of p (now (rows .entry)) span cuts clock ⌝ }
 {
-    let held = packed(rows, span, 0, span.count);
-    let acts = packed(rows, span, 1, span.count);
-    let masks = packed(rows, span, 2, cuts);
-    let armed = packed(rows, span, 3, cuts);
+    let inputs = packed(rows, span, 0, span.count);
+    let words = packed(rows, span, 2, cuts);
+    let held = inputs.first;
+    let acts = inputs.second;
+    let masks = words.first;
+    let armed = words.second;
     let status = Status {
         span: rows::spanning(span.count),
         clock: clock,
     };
     of_arrays(p, held, acts, masks, armed, status)
+}
+
+// How many cuts are in use: one before each open input and one after all, and none while blind.
+fn cuts_in_use(count: usize, blind: bool) -> usize
+    requires { ⌜ count ≤ 64 ⌝ }
+    ensures { λ r. ⌜ (r ≡ cond blind 0 (count + 1)) × (r ≤ 65) ⌝ }
+{
+    if blind {
+        return 0;
+    }
+    count + 1
 }
 
 // The record for the caller, of what the rows hold: nothing stands in places not in use.
@@ -159,10 +184,8 @@ pub fn made(p: Property, rows: &[Words], status: Status) -> Session
 {
     let span = status.span;
     let clock = status.clock;
-    if clock.blind {
-        return stored(p, rows, rows::spanning(0), 0, clock);
-    }
-    stored(p, rows, span, span.count + 1, clock)
+    let cuts = cuts_in_use(span.count, clock.blind);
+    stored(p, rows, span, cuts, clock)
 }
 
 // A record with no open input, its one cut as given.
