@@ -1,5 +1,5 @@
 /*
- * Times the stretch judge (or, built with -DWALK, the walk by value) per record, at 3 and 61 open inputs and sequences of 1, 6
+ * Times the stretch judge (or, built with -DWALK, the walk by value) per record, at 3, 20 and 61 open inputs and sequences of 1, 6
  * and 32 actions, and for logs of different lengths. Not a test: nothing is asserted.
  *
  *   bench [RECORDS]       for each number at least that many records are judged
@@ -70,7 +70,7 @@ static size_t taken(const uint8_t *p, size_t pn, const uint8_t *t, size_t tn, si
 
 int main(int argc, char **argv)
 {
-    static const unsigned lengths[] = {1, 6, 32}, held[] = {3, 61};
+    static const unsigned lengths[] = {1, 6, 32}, held[] = {3, 20, 61};
     size_t least = argc > 1 ? (size_t)strtoull(argv[1], NULL, 10) : 2000000;
     uint8_t property[PROPERTY_ROOM];
     uint8_t *trace = malloc(RECORD * 16001);
@@ -78,7 +78,7 @@ int main(int argc, char **argv)
     printf("%s, nanoseconds a record\n", called);
     printf("sequence  open inputs %10lu%10lu%10lu\n", (unsigned long)logs[0], (unsigned long)logs[1], (unsigned long)logs[2]);
     for (int i = 0; i < 3; i++)
-        for (int j = 0; j < 2; j++) {
+        for (int j = 0; j < 3; j++) {
             uint64_t ub = 6100;
             size_t pn = property_of(property, lengths[i], 10, ub);
             printf("%8u  %11u ", lengths[i], held[j]);
