@@ -1,11 +1,10 @@
 -- Records that say the same, wherever their rings start and whatever stands in places not in use, have the same answers, and taken the same
 -- session after them.
 use Prim.Native.Nat.{ℕ, zero, suc, _≤_, _<_}
-use mathlib.Core.Path.{_≡_, refl, sym, _∙_, ap, ap₂, subst}
+use mathlib.Core.Path.{_≡_, refl, sym, _∙_, ap, ap₂}
 use mathlib.Core.Bool.{Bool, true, false, cond, not, _&&_, _||_}
 use mathlib.Core.List.{List}
 use native.Mathlib.Omega.{arith}
-use lib.ListN.{getD}
 use lib.Dec.{eqb, ltb}
 use borrow.Author.Tests.{le-ltb, ltb-true}
 use Rattle.laws.specs.Places.{first, some-below}
@@ -14,9 +13,8 @@ use Rattle.meaning.specs.Words.{Action, Line}
 use Rattle.meaning.specs.Limits.{last-stamp, most-open}
 use Rattle.meaning.specs.Numbers.{given, first-of, property-refusal}
 use Rattle.meaning.specs.Calls.{Call}
-use Rattle.meaning.specs.Calls
 use Rattle.meaning.specs.Matcher.{Lengths, some-to}
-use Rattle.meaning.specs.Step.{Held, Front, Cuts}
+use Rattle.meaning.specs.Step.{Held}
 use Rattle.meaning.proofs.Tests.{some-to-agree}
 use Rattle.property.specs.Meant.{meant}
 use Rattle.property.specs.declared.Property.{Property}
@@ -25,9 +23,8 @@ use Rattle.matcher.specs.Sets.{set-of, stray}
 use Rattle.rows.specs.Rows.{last-place, place, word}
 use Rattle.held.specs.Held.{line-at, stamps-fall}
 use Rattle.cuts.specs.Steps.{front-none, refusal-by, taken-by, told-by}
-use Rattle.cuts.specs.Fronts.{cut-at, set-at, held-at, front-of}
+use Rattle.cuts.specs.Fronts.{cut-at, held-at, front-of}
 use Rattle.session_record.specs.declared.Session.{Session}
-use Rattle.session_record.specs.declared.Answer.{Answer}
 use Rattle.session_record.specs.declared.Stepped.{Stepped}
 use Rattle.session_record.specs.Record.{rows-of, span-of, latest-of, blind-of, cuts-of, record-of, length-above, out-of-range}
 use Rattle.session_record.specs.Step.{answer-of, refusal-of, stepped-of}
