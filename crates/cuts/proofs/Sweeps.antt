@@ -174,7 +174,7 @@ module _ (p : Property) (rows mid now : List (List ℕ)) (s : Span) (j action st
       (line-kept s j rows mid mid-others i)
       (ap set-of
       (ap (λ (r : List (List ℕ)). cut-at r s j (suc i)) put
-      ∙ cut-there rows s j 0 c (u .room) (u .there) (omega arith) (suc i) (omega (arith, u .room .few)) (λ (e : suc i ≡ 0). omega arith)))
+      ∙ cut-there rows s j 0 c (u .room) (u .there) (omega arith) (suc i) (omega (arith, u .room .within .few)) (λ (e : suc i ≡ 0). omega arith)))
 
   tall : length now ≡ length rows
   tall = w .tall ∙ ap length put ∙ cut-tall rows s j 0 c (u .room) (u .there) (omega arith)

@@ -56,8 +56,7 @@ module _ (rows : List (List ℕ)) (s : Span) (k i v : ℕ) where
         record {
           long = λ m z. long m (subst (λ (n : ℕ). m < n) tall-with z) (eqb m k) (eqb-true m k) (eqb-false m k);
           shared = subst (λ (n : ℕ). 1 < n) (sym tall-with) (room .shared);
-          begins = room .begins;
-          few = room .few;
+          within = room .within;
         }
       where
         long : (m : ℕ) → m < length rows → (t : Bool) → (t ≡ true → m ≡ k) → (t ≡ false → m ≡ k → ⊥) → length (getD (with rows s k i v) m []) ≡ 65
@@ -88,7 +87,7 @@ pub within-none : Within none
 within-none = record { begins = omega arith; few = omega arith }
 
 pub room-none : (rows : List (List ℕ)) (s : Span) → Room rows s → Room rows none
-room-none rows s r = record { long = r .long; shared = r .shared; begins = omega arith; few = omega arith }
+room-none rows s r = record { long = r .long; shared = r .shared; within = within-none }
 
 -- one more than before,
 pub count-longer : (s : Span) → longer s .count ≡ suc (s .count)
@@ -104,7 +103,7 @@ unfolding longer
 begins-longer s h = h
 
 pub room-longer : (rows : List (List ℕ)) (s : Span) → Room rows s → s .count < 64 → Room rows (longer s)
-room-longer rows s r h = record { long = r .long; shared = r .shared; begins = begins-longer s (r .begins); few = omega (arith, count-longer s) }
+room-longer rows s r h = record { long = r .long; shared = r .shared; within = record { begins = begins-longer s (r .within .begins); few = omega (arith, count-longer s) } }
 
 -- and without the first d: what is left stands where it stood.
 pub count-shorter : (s : Span) (d : ℕ) → shorter s d .count ≡ s .count - d
@@ -121,4 +120,4 @@ begins-shorter s d = let below : place s d < 65 = place-below s d in omega arith
 
 pub room-shorter : (rows : List (List ℕ)) (s : Span) (d : ℕ) → Room rows s → Room rows (shorter s d)
 room-shorter rows s d r =
-    record { long = r .long; shared = r .shared; begins = begins-shorter s d; few = omega (arith, r .few, count-shorter s d) }
+    record { long = r .long; shared = r .shared; within = record { begins = begins-shorter s d; few = omega (arith, r .within .few, count-shorter s d) } }

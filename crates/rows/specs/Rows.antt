@@ -43,5 +43,4 @@ pub record Within (s : Span) : Type 0 where
 pub record Room (rows : List (List ℕ)) (s : Span) : Type 0 where
   pub long : (k : ℕ) → k < length rows → length (getD rows k []) ≡ 65
   pub shared : 1 < length rows
-  pub begins : s .start ≤ last-place
-  pub few : s .count ≤ 64
+  pub within : Within s

@@ -82,7 +82,7 @@ ranged-fit m r = go (m .status .clock .blind) refl
     go true e = blind-fit (m .property) (blind-if true (clock-of (m .status .clock))) (r .limit)
     go false e =
         record {
-          few = subst (λ (n : ℕ). n ≤ most-open) (sym (length-first (held-at (m .rows) (m .status .span) 0) (m .status .span .count))) (r .few);
+          few = subst (λ (n : ℕ). n ≤ most-open) (sym (length-first (held-at (m .rows) (m .status .span) 0) (m .status .span .count))) (r .within .few);
           order =
               order-first (held-at (m .rows) (m .status .span) 0) 0 (m .status .span .count) (m .status .clock .latest)
               (λ i. tt) (λ z. omega arith) (λ h. omega arith) (r .rising) (r .last);

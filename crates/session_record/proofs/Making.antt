@@ -31,7 +31,7 @@ use Rattle.session_record.specs.Lent.{Memory, held-in, record-in, Ready,
 
 -- Four rows, each with its places.
 pub four-room : (a b c d : List ℕ) → length a ≡ 65 → length b ≡ 65 → length c ≡ 65 → length d ≡ 65 → (s : Span) → Within s → Room (a ∷ b ∷ c ∷ d ∷ []) s
-four-room a b c d x y z w s within = record { long = long; shared = omega arith; begins = within .begins; few = within .few }
+four-room a b c d x y z w s within = record { long = long; shared = omega arith; within = within }
   where
     long : (k : ℕ) → k < 4 → length (getD (a ∷ b ∷ c ∷ d ∷ []) k []) ≡ 65
     long zero h = x

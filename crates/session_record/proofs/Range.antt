@@ -55,8 +55,7 @@ ranged s e =
     let two = or-split (misformed s) (outside s) (three .0) in
     record {
       formed = eqb-true (property-refusal (meant (s .property))) 0 (not-false _ (two .0));
-      begins = ltb-false last-place (start-of s) (two .1);
-      few = ltb-false most-open (count-of s) (three .1);
+      within = record { begins = ltb-false last-place (start-of s) (two .1); few = ltb-false most-open (count-of s) (three .1) };
       rising = λ i h. falls-not (four .1) i (omega arith) true (lt-ltb (suc i) (count-of s) h);
       last = λ i h. falls-not (four .1) i (omega arith) false (le-ltb (suc i) (count-of s) (omega arith));
       none-blind = λ b.

@@ -40,7 +40,7 @@ pub lent-ready : (s : Session) → out-of-range s ≡ false → (rows : List (Li
     → Ready (memory (s .property) rows (s .shared .status))
 lent-ready s e rows same rooms =
     subst (λ (x : List (List ℕ)). Ready (memory (s .property) x (s .shared .status))) (sym same)
-    (fits-ready s e (subst (λ (x : List (List ℕ)). Room x (span-of s)) same (rooms (span-of s) (record { begins = ranged s e .begins; few = ranged s e .few }))))
+    (fits-ready s e (subst (λ (x : List (List ℕ)). Room x (span-of s)) same (rooms (span-of s) (ranged s e .within))))
 
 -- While blind,
 pub blind-ready : (m : Memory) → property-refusal (meant (m .property)) ≡ 0 → Room (m .rows) (m .status .span) → 3 < length (m .rows) → m .status .span .count ≡ 0
@@ -52,8 +52,7 @@ blind-ready m good room there none b limit =
       ranged =
           record {
             formed = good;
-            begins = room .begins;
-            few = room .few;
+            within = room .within;
             rising = λ i h. let z : ⊥ = omega arith in absurd z;
             last = λ i h. let z : ⊥ = omega arith in absurd z;
             none-blind = λ h. none;
@@ -71,8 +70,7 @@ open-ready m u b f =
       ranged =
           record {
             formed = u .formed;
-            begins = u .room .begins;
-            few = u .room .few;
+            within = u .room .within;
             rising = λ i h. omega (arith, stamp i (omega arith), stamp (suc i) h, order-next (nothing none-of) order i (subst (λ (n : ℕ). suc i < n) (sym long) h));
             last = λ i h. omega (arith, stamp i (omega arith), order-within (nothing none-of) order i (subst (λ (n : ℕ). i < n) (sym long) (omega arith)));
             none-blind = λ h. absurd (true≢false (sym h ∙ b));

@@ -15,7 +15,7 @@ use Rattle.matcher.specs.declared.Cut.{Cut}
 use Rattle.matcher.specs.Sets.{Fits}
 use Rattle.laws.specs.Places.{first, padded}
 use Rattle.rows.specs.declared.Span.{Span}
-use Rattle.rows.specs.Rows.{last-place, spanning, none, word, Room}
+use Rattle.rows.specs.Rows.{spanning, none, word, Within, Room}
 use Rattle.clock.specs.declared.Clock.{Clock}
 use Rattle.clock.specs.Time.{stored-clock}
 use Rattle.held.specs.declared.Status.{Status}
@@ -54,8 +54,7 @@ tidied s = record-in (memory-of s)
 -- What refusal 10 does not name, part by part.
 pub record Ranged (m : Memory) : Type 0 where
   pub formed : property-refusal (meant (m .property)) ≡ 0
-  pub begins : m .status .span .start ≤ last-place
-  pub few : m .status .span .count ≤ 64
+  pub within : Within (m .status .span)
   pub rising : (i : ℕ) → suc i < m .status .span .count → word (m .rows) (m .status .span) 0 i ≤ word (m .rows) (m .status .span) 0 (suc i)
   pub last : (i : ℕ) → suc i ≡ m .status .span .count → word (m .rows) (m .status .span) 0 i ≤ m .status .clock .latest
   pub none-blind : m .status .clock .blind ≡ true → m .status .span .count ≡ 0

@@ -48,7 +48,7 @@ abbrev turn : tie.After-cut-at2 Inv-loop μ-loop → tie.At-loop Inv-loop μ-loo
 turn k = k .before .before .before
 
 few : (t : tie.At-loop Inv-loop μ-loop) → entry t .args .span .count ≤ 64
-few t = entry t .pre .0 .room .few
+few t = entry t .pre .0 .room .within .few
 
 cut-at-requires : tie.Need-cut-at-requires Inv-loop μ-loop
 cut-at-requires c κs = (c .before .pre .0 .room, c .before .pre .0 .there, omega arith)

@@ -20,8 +20,8 @@ put-requires-2 c κs =
     let first = c .before .before .put in
     let one : Room (first .last .0) s =
     subst (λ (r : List (List ℕ)). Room r s) (sym (first .ensures))
-    (room-with (b .args .rows .now) s 0 (s .count) (b .args .stamp) (b .pre) (omega (arith, b .pre .shared)) (b .pre .few)) in
-    (one, one .shared, b .pre .few)
+    (room-with (b .args .rows .now) s 0 (s .count) (b .args .stamp) (b .pre) (omega (arith, b .pre .shared)) (b .pre .within .few)) in
+    (one, one .shared, b .pre .within .few)
 
 returns : tie.Need-returns
 returns c =
