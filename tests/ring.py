@@ -3,11 +3,10 @@
 
     tests/ring.py [LOGS [SEED]]     exits 1 at a difference
 
-Each of LOGS logs has 3,000 lines, with 60 inputs open and more at most of them, so that its ring goes round some twenty times. It goes
-through the printing program, every line compared; through one walk of the console (docs/CALLS.md), whose record is compared place by
-place; and through the judge. Then session records that begin at each of the 65 places, with something in the places not in use,
-get lines, marks and walks, taken and refused, by the checks of tests/calls.py. They are records that a walk gave back, with 0 to 64
-inputs open."""
+Each of LOGS logs has 3,000 lines, with 60 inputs open and more at most of them, so that its ring goes round again and again. It goes
+through the printing program, every line compared; in walks through the console (docs/CALLS.md), to its end and to drawn lines of it, and
+their records are compared place by place; and through the judge. Then session records that begin at each of the 65 places, with 0 to 64
+inputs open and something in the places not in use, get lines, marks and walks, taken and refused, by the checks of tests/calls.py."""
 import functools
 import itertools
 import os
