@@ -87,8 +87,8 @@ pub use Rattle.demands.proofs.Walks.{budget-spent}
 -- What is called, and what the session record holds after any calls.
 pub use Rattle.demands.proofs.Called.{kinds, own-call, line-called, mark-called, event-called, property-called, lines-called, name-called, record-called, stop-called, walk-called, zeros-called, version-called}
 pub use Rattle.demands.proofs.Held.{running-holds, demand-10}
--- A record may start at any place of its ring (document 02, CR 9): two that say the same have the same answers.
-pub use Rattle.demands.proofs.Ring.{demand-ring}
+-- A record may start at any place of its ring (document 02, CR 9): two that say the same have the same answers, to calls and to walks.
+pub use Rattle.demands.proofs.Ring.{demand-ring, ring-walk}
 -- A verdict once told stays told (document 02, CR 3): of the calls that run (`Told`), behind `running-3`.
 pub use Rattle.demands.proofs.Told.{told-stays, closed-stays, closed-history, line-stands, session-stays, walk-stays, listing-stays, refused-stays}
 -- Lost lines that demand 3's premises cover: behind their mark, and before the second of two marks.
