@@ -27,10 +27,7 @@ use Rattle.rows.proofs.Rows.{tall-with, room-with, word-here, word-there, word-
 use Rattle.held.specs.Held.{line-at, with-input, Closes}
 use Rattle.cuts.specs.Steps.{line-of, front-closed, front-then, front-after}
 use Rattle.cuts.specs.Fronts.{cut-at, with-cut, set-at, held-at, front-of, Usable, Holds, Appended}
-use Rattle.cuts.proofs.Sweeps.{cut-same, line-same, line-kept, cut-tall, cut-room, cut-others, cut-here, cut-there}
-
-held-same : (l l′ : Line) (s s′ : Lengths) → l ≡ l′ → s ≡ s′ → _≡_ {A = Held Lengths} (record { line = l; after = s }) (record { line = l′; after = s′ })
-held-same l l′ s s′ e f = ap₂ (λ (x : Line) (y : Lengths). record { line = x; after = y }) e f
+use Rattle.cuts.proofs.Sweeps.{cut-same, line-same, held-same, line-kept, cut-tall, cut-room, cut-others, cut-here, cut-there}
 
 -- ---- closing: the first d give their places up, and nothing is moved
 

@@ -34,6 +34,9 @@ cut-same a b m n e f = ap₂ cut-with e f
 pub line-same : (a b m n : ℕ) → a ≡ b → m ≡ n → _≡_ {A = Line} (record { action = Action.input a; stamp = m }) (record { action = Action.input b; stamp = n })
 line-same a b m n e f = ap₂ (λ (x y : ℕ). record { action = Action.input x; stamp = y }) e f
 
+pub held-same : (l l′ : Line) (s s′ : Lengths) → l ≡ l′ → s ≡ s′ → _≡_ {A = Held Lengths} (record { line = l; after = s }) (record { line = l′; after = s′ })
+held-same l l′ s s′ e f = ap₂ (λ (x : Line) (y : Lengths). record { line = x; after = y }) e f
+
 -- ---- one cut stored
 
 module _ (rows : List (List ℕ)) (s : Span) (j i : ℕ) (c : Cut) (room : Room rows s) (there : 3 + 2 * j < length rows) (few : i ≤ 64) where
@@ -170,8 +173,7 @@ module _ (p : Property) (rows mid now : List (List ℕ)) (s : Span) (j action st
   -- the open inputs, and the old sets behind them
   held-mid : (i : ℕ) → i < s .count → held-at mid s j i ≡ held-at rows s j i
   held-mid i h =
-      ap₂ (λ (l : Line) (x : Lengths). record { line = l; after = x })
-      (line-kept s j rows mid mid-others i)
+      held-same _ _ _ _ (line-kept s j rows mid mid-others i)
       (ap set-of
       (ap (λ (r : List (List ℕ)). cut-at r s j (suc i)) put
       ∙ cut-there rows s j 0 c (u .room) (u .there) (omega arith) (suc i) (omega (arith, u .room .within .few)) (λ (e : suc i ≡ 0). omega arith)))
@@ -190,7 +192,7 @@ module _ (p : Property) (rows mid now : List (List ℕ)) (s : Span) (j action st
                   ap₂ (λ (x : Lengths) (l : List (Held Lengths)). record { before = x; held = l })
                   (w .swept 0 (omega arith) ∙ sym (new-set-none p mid s j action stamp (set-of c)) ∙ head)
                   (first-same (held-at now s j) (λ i. record { line = line-at mid s i; after = new-set p mid s j action stamp (set-of c) (suc i) }) (s .count)
-                  (λ i h. ap₂ (λ (l : Line) (x : Lengths). record { line = l; after = x }) (line-kept s j mid now (w .others) i) (w .swept (suc i) (omega arith)))
+                  (λ i h. held-same _ _ _ _ (line-kept s j mid now (w .others) i) (w .swept (suc i) (omega arith)))
                   ∙ sym (swept-first (meant p) (lengths (meant p)) (line-of true action stamp) (set-of c) (held-at mid s j) (s .count))
                   ∙ ap₂ (swept (meant p) (lengths (meant p)) (line-of true action stamp)) head (first-same (held-at mid s j) (held-at rows s j) (s .count) held-mid));
               usable =

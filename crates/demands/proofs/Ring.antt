@@ -10,7 +10,7 @@ use lib.Dec.{eqb, ltb, eqb·suc-zero}
 use borrow.Author.Tests.{le-ltb, ltb-true}
 use Rattle.laws.specs.Places.{first, some-below}
 use Rattle.laws.proofs.Places.{first-same}
-use Rattle.meaning.specs.Words.{Action, Line}
+use Rattle.laws.proofs.Below.{below-agree}
 use Rattle.meaning.specs.Limits.{last-stamp, most-open}
 use Rattle.meaning.specs.Numbers.{given, first-of, property-refusal}
 use Rattle.meaning.specs.Calls.{Call}
@@ -25,6 +25,7 @@ use Rattle.rows.specs.Rows.{last-place, place, word}
 use Rattle.held.specs.Held.{line-at, stamps-fall}
 use Rattle.cuts.specs.Steps.{front-none, refusal-by, taken-by, told-by}
 use Rattle.cuts.specs.Fronts.{cut-at, held-at, front-of}
+use Rattle.cuts.proofs.Sweeps.{cut-same, line-same, held-same}
 use Rattle.session_record.specs.declared.Session.{Session}
 use Rattle.session_record.specs.declared.Answer.{Answer}
 use Rattle.session_record.specs.declared.Stepped.{Stepped}
@@ -36,12 +37,6 @@ use Rattle.trace_form.specs.ReadAs.{ReadAs, read-as}
 use Rattle.walk.specs.declared.Stop.the-variants.{Refused}
 use Rattle.walk.specs.Walk.{Walk, Walking, one-call, one-read, stopped, one-more, walked-by, walk-on, walk-answer, budget-of, walk-of}
 use Rattle.demands.specs.Ring.{start-of, count-of, SaysSame}
-
--- only the numbers below n count
-below-agree : (n : ℕ) (f g : ℕ → Bool) → ((i : ℕ) → i < n → f i ≡ g i) → some-below n f ≡ some-below n g
-unfolding some-below
-below-agree zero f g h = refl
-below-agree (suc n) f g h = ap₂ _||_ (h n (omega arith)) (below-agree n f g (λ i l. h i (omega arith)))
 
 module _ (s r : Session) (same : SaysSame s r) where
   abbrev s-word : ℕ → ℕ → ℕ
@@ -59,20 +54,20 @@ module _ (s r : Session) (same : SaysSame s r) where
   unfolding word place
   act-same i h = same .actions i h
 
-  cut-same : blind-of s ≡ false → (i : ℕ) → i ≤ count-of s → cut-at (rows-of s) (span-of s) 0 i ≡ cut-at (rows-of r) (span-of r) 0 i
+  same-cut : blind-of s ≡ false → (i : ℕ) → i ≤ count-of s → cut-at (rows-of s) (span-of s) 0 i ≡ cut-at (rows-of r) (span-of r) 0 i
   unfolding word place
-  cut-same b i h = ap₂ (λ (x y : ℕ). record { mask = x; armed = y }) (same .masks b i h) (same .armed b i h)
+  same-cut b i h = cut-same _ _ _ _ (same .masks b i h) (same .armed b i h)
 
   -- They stand for one session over cuts,
-  line-same : (i : ℕ) → i < count-of s → line-at (rows-of s) (span-of s) i ≡ line-at (rows-of r) (span-of r) i
-  line-same i h = ap₂ (λ (x y : ℕ). record { action = Action.input x; stamp = y }) (act-same i h) (stamp-same i h)
+  same-line : (i : ℕ) → i < count-of s → line-at (rows-of s) (span-of s) i ≡ line-at (rows-of r) (span-of r) i
+  same-line i h = line-same _ _ _ _ (act-same i h) (stamp-same i h)
 
   front-same : blind-of s ≡ false → front-of (rows-of s) (span-of s) 0 ≡ front-of (rows-of r) (span-of r) 0
   front-same b =
       ap₂ (λ (x : Lengths) (l : List (Held Lengths)). record { before = x; held = l })
-      (ap set-of (cut-same b 0 (omega arith)))
+      (ap set-of (same-cut b 0 (omega arith)))
       (first-same (held-at (rows-of s) (span-of s) 0) (held-at (rows-of r) (span-of r) 0) (count-of s)
-      (λ i h. ap₂ (λ (l : Line) (x : Lengths). record { line = l; after = x }) (line-same i h) (ap set-of (cut-same b (suc i) (omega arith))))
+      (λ i h. held-same _ _ _ _ (same-line i h) (ap set-of (same-cut b (suc i) (omega arith))))
       ∙ ap (first (held-at (rows-of r) (span-of r) 0)) (same .count))
 
   fronts : (b : Bool) → blind-of s ≡ b
@@ -102,7 +97,7 @@ module _ (s r : Session) (same : SaysSame s r) where
 
   above-same : blind-of s ≡ false → length-above (rows-of s) (span-of s) (s .property .n) ≡ length-above (rows-of r) (span-of r) (r .property .n)
   above-same b =
-      some-to-agree (count-of s) _ _ (λ i h. ap₂ (λ (p : Property) (c : Cut). stray (p .n) c) (same .property) (cut-same b i h))
+      some-to-agree (count-of s) _ _ (λ i h. ap₂ (λ (p : Property) (c : Cut). stray (p .n) c) (same .property) (same-cut b i h))
       ∙ ap (λ (n : ℕ). some-to n (λ i. stray (r .property .n) (cut-at (rows-of r) (span-of r) 0 i))) (same .count)
 
   lengths-same : (b : Bool) → blind-of s ≡ b

@@ -37,7 +37,7 @@ with rows s k i v = set rows k (set (getD rows k []) (place s i) v)
 -- A span that the ring has places for.
 pub record Within (s : Span) : Type 0 where
   pub begins : s .start ≤ last-place
-  pub few : s .count ≤ 64
+  pub few : s .count ≤ last-place
 
 -- Every row has its 65 places, and they are enough; the two rows of the open inputs are there.
 pub record Room (rows : List (List ℕ)) (s : Span) : Type 0 where

@@ -43,7 +43,7 @@ fn place(span: Span, i: usize) -> usize
 
 // One open input more, behind the others.
 pub fn longer(span: Span) -> Span
-    requires { ⌜ span .count < 64 ⌝ }
+    requires { ⌜ span .count < last-place ⌝ }
     ensures { λ r. ⌜ r ≡ Rows.longer span ⌝ }
 {
     Span {
@@ -65,7 +65,7 @@ pub fn shorter(span: Span, d: usize) -> Span
 
 // The word at index i of row k.
 pub fn word(rows: &[Words], span: Span, k: usize, i: usize) -> u64
-    requires { ⌜ Room (now rows) span × (k < length (now rows)) × (i ≤ 64) ⌝ }
+    requires { ⌜ Room (now rows) span × (k < length (now rows)) × (i ≤ last-place) ⌝ }
     ensures { λ r. ⌜ r ≡ Rows.word (now (rows .entry)) span k i ⌝ }
 {
     let p = place(span, i);
@@ -74,7 +74,7 @@ pub fn word(rows: &[Words], span: Span, k: usize, i: usize) -> u64
 
 // A word is stored there.
 pub fn put(rows: &mut [Words], span: Span, k: usize, i: usize, v: u64)
-    requires { ⌜ Room (now rows) span × (k < length (now rows)) × (i ≤ 64) ⌝ }
+    requires { ⌜ Room (now rows) span × (k < length (now rows)) × (i ≤ last-place) ⌝ }
     ensures { λ _. ⌜ now (rows .exit) ≡ Rows.with (now (rows .entry)) span k i v ⌝ }
 {
     let p = place(span, i);

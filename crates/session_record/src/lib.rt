@@ -97,7 +97,7 @@ pub fn unfit(s: Session) -> bool
 }
 
 // Two rows, from the first place on: of the open inputs, or of the cuts.
-pub struct Pair {
+struct Pair {
     pub first: Words,
     pub second: Words,
 }
