@@ -1,4 +1,6 @@
 // What a call on lent rows answers: refused, taken, blind; which refusal of a line or a gap mark holds first; how many are open.
+#![tactic(auto)]
+
 ghost use Rattle.std.specs.Prelude.{◌≡◌, cond, ◌+◌, ◌-◌, ◌≤◌, ltb};
 ghost use Rattle.meaning.specs.Limits.{last_action, most_open};
 ghost use Rattle.meaning.specs.Numbers.{given, first_of};

@@ -15,7 +15,7 @@ const OF_SESSION: usize = 8;
 
 // The number of bytes of the script behind the call; the first `count` numbers and, where they are shown, the first `size` bytes; how
 // many lines are printed below that; and the session, which is kept for the next call.
-#[derive(Drop)]
+#[derive(Clone, Copy)]
 pub struct Answer {
     pub left: usize,
     pub letter: u8,

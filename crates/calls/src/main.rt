@@ -1,5 +1,7 @@
 // A console for every public call: reads a packed script of calls from standard input, keeps a session between them, and prints what
 // each call gives back (docs/CALLS.md).
+#![tactic(auto)]
+
 mod answer;
 mod forms;
 mod orders;
@@ -15,7 +17,7 @@ use session_record::Session;
 const MOST: usize = 524288;
 
 // What a call leaves: the number of bytes of the script behind it, and the session.
-#[derive(Drop)]
+#[derive(Clone, Copy)]
 struct After {
     left: usize,
     session: Session,

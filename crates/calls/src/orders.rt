@@ -9,14 +9,14 @@ use script::{arguments, lines, properties, text};
 const MOST: usize = 512;
 
 // What the call left in the two lists of an order.
-#[derive(Drop)]
+#[derive(Clone, Copy)]
 struct Order {
     numbers: [u64; 512],
     moments: [i64; 512],
 }
 
 // What it answered, and the two orders.
-#[derive(Drop)]
+#[derive(Clone, Copy)]
 struct Explained {
     told: [u64; 3],
     one: Order,

@@ -1,4 +1,6 @@
 // The clock of a session, which all properties of a log share: the latest stamp, and is the session blind.
+#![tactic(auto)]
+
 ghost use Rattle.std.specs.Prelude.{◌≤◌, ◌≡◌};
 ghost use Rattle.meaning.specs.Limits.{last_stamp};
 ghost use Rattle.meaning.specs.Words.{Line};
@@ -11,7 +13,7 @@ ghost use Rattle.clock.specs.Time.{clock_of, stored_clock};
 use limits::LAST_STAMP;
 use property::Property;
 
-#[derive(Drop)]
+#[derive(Clone, Copy)]
 pub struct Clock {
     pub latest: u64,
     pub blind: bool,

@@ -1,5 +1,7 @@
 // One line of a run on lent rows. What belongs to one property is two rows: the two words of each cut, one before each open input and one
 // after all. What all properties share, the open inputs, is in `held`.
+#![tactic(auto)]
+
 ghost use Rattle.std.specs.Prelude.{◌+◌, ◌-◌, ◌*◌, ◌≤◌, ◌<◌, ◌≡◌, false, length};
 ghost use Rattle.meaning.specs.Limits.{last_stamp};
 ghost use Rattle.meaning.specs.Node.{verdict_number};
@@ -21,7 +23,7 @@ use rows::{Span, Words};
 use table::Table;
 
 // "there are never more than sixty-five cuts to hold": the matched lengths of each as a mask, and the armed ones beside it.
-#[derive(Drop)]
+#[derive(Clone, Copy)]
 pub struct Row {
     pub masks: [u64; 65],
     pub armed: [u64; 65],

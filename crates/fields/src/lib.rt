@@ -1,4 +1,6 @@
 // Fields of whole bits, most significant first: a field read from bytes; a field put into a list of bits; bits packed into bytes.
+#![tactic(auto)]
+
 ghost use Rattle.std.specs.Prelude.{◌≡◌, ◌++◌, ◌+◌, ◌*◌, ◌≤◌, ◌<◌, ◌^◌, length, drop};
 ghost use Rattle.std.proofs.Math.Seq.{paste};
 ghost use Rattle.fields.specs.Fields.{digit, bit, field, number, bits, at, packed, Bits};

@@ -1,4 +1,6 @@
 // The first order of a run with a wanted end, going forward: an output first, wherever that end can still be reached from there.
+#![tactic(auto)]
+
 ghost use Rattle.std.specs.Prelude.{◌+◌, ◌-◌, ◌^◌, ◌≤◌, ◌<◌, ◌≡◌, cond, not, length};
 ghost use Rattle.laws.specs.Filled.{Filled};
 ghost use Rattle.meaning.specs.Numbers.{property_refusal};

@@ -1,4 +1,6 @@
 // A gap mark on lent rows, in which it changes nothing: what they hold is not in use while blind.
+#![tactic(auto)]
+
 ghost use Rattle.meaning.specs.Calls.{mark_at};
 ghost use Rattle.session_record.specs.Lent.{memory, Ready, Advanced};
 

@@ -1,5 +1,7 @@
 // The open inputs, which all properties of a log share: their stamps in row 0 and the numbers of their actions in row 1; how many have closed
 // at a stamp, one more.
+#![tactic(auto)]
+
 ghost use Rattle.std.specs.Prelude.{ℕ, suc, ◌≤◌, ◌<◌, ◌≡◌, cond, ltb};
 ghost use Rattle.meaning.specs.Limits.{last_bound, last_stamp};
 ghost use Rattle.rows.specs.Rows.{Room, word};
@@ -9,14 +11,14 @@ use clock::Clock;
 use rows::{Span, Words};
 
 // What stands beside the rows: which of their places are in use, and the clock.
-#[derive(Drop)]
+#[derive(Clone, Copy)]
 pub struct Status {
     pub span: Span,
     pub clock: Clock,
 }
 
 // What all properties share: the stamps of the open inputs, the numbers of their actions, and what stands beside them.
-#[derive(Drop)]
+#[derive(Clone, Copy)]
 pub struct Shared {
     pub held: [u64; 65],
     pub acts: [u64; 65],

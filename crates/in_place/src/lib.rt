@@ -1,4 +1,6 @@
 // A line on lent rows: a walk lends them from record to record.
+#![tactic(auto)]
+
 ghost use Rattle.meaning.specs.Calls.{Call};
 ghost use Rattle.table.specs.Table.{IsTable};
 ghost use Rattle.cuts.specs.Steps.{line_of};

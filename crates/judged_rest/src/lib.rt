@@ -1,5 +1,7 @@
 // The lines of a run that are not yet in an order, judged from the state that the order has reached. A run is lent as three lists: for each
 // line whether it is an output, its action's number, its stamp.
+#![tactic(auto)]
+
 ghost use Rattle.std.specs.Prelude.{◌+◌, ◌^◌, ◌<◌, ◌≡◌, cond, length, eqb};
 ghost use Rattle.meaning.specs.Numbers.{property_refusal};
 ghost use Rattle.property.specs.Meant.{meant};
@@ -18,7 +20,7 @@ use rows::Words;
 use table::Table;
 
 // Refusal number, verdict, and the line after which it was first told.
-#[derive(Drop)]
+#[derive(Clone, Copy)]
 pub struct Reason {
     pub refusal: u64,
     pub verdict: u64,
@@ -26,7 +28,7 @@ pub struct Reason {
 }
 
 // How far a judgement of the lines has come, beside the rows.
-#[derive(Drop)]
+#[derive(Clone, Copy)]
 pub struct Judging {
     pub status: Status,
     pub told: Reason,
@@ -34,7 +36,7 @@ pub struct Judging {
 
 // How far an order has come: every input before place `input` stands in it, and every output before place `output`. What the
 // matcher remembers of it is the one state in `cut`.
-#[derive(Drop)]
+#[derive(Clone, Copy)]
 pub struct Reached {
     pub input: usize,
     pub output: usize,

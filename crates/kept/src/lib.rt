@@ -1,4 +1,6 @@
 // "The session record stays with the caller": the proved step by value, and one thin function that stores what it gives.
+#![tactic(auto)]
+
 ghost use Rattle.std.specs.Prelude.{◌≡◌};
 ghost use Rattle.session_record.specs.Step.{stepped_of};
 ghost use Rattle.kept.specs.Event.{call_of};
@@ -7,7 +9,7 @@ use session_record::{Answer, Session, Stepped};
 
 // One event of a trace: a line (an output or an input, the number of its action, its stamp) or a gap mark (the number of lost lines,
 // its stamp).
-#[derive(Drop)]
+#[derive(Clone, Copy)]
 pub enum Event {
     Line(bool, u8, u64),
     Mark(u8, u64),

@@ -1,4 +1,5 @@
 // The limits of document 01 (`meaning`, specs/Limits.antt), each once.
+#![tactic(auto)]
 
 // "a sequence of 1 to 32 actions"
 pub const MOST_ACTIONS: usize = 32;

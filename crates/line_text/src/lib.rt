@@ -1,10 +1,12 @@
 // A line of text as it grows: a byte, a word, a number in decimal.
+#![tactic(auto)]
+
 ghost use Rattle.std.specs.Prelude.{◌≡◌, ◌∷◌, [], ◌++◌, ◌+◌, ◌≤◌, ◌<◌, length};
 ghost use Rattle.line_text.specs.Text.{room, space, digit, decimal, text_of};
 ghost use Rattle.line_text.specs.Append.{Added};
 
 // A line of the listing with its newline, and zeros behind it. The longest, each number of 20 digits, has 94 bytes.
-#[derive(Drop)]
+#[derive(Clone, Copy)]
 pub struct Text {
     pub bytes: [u8; 96],
     pub len: usize,

@@ -1,5 +1,7 @@
 // The printing programs but for the place that the input comes from and the form of its records: a packed property and records
 // are read from a descriptor, and the listing is written to standard output. What is written, the crate `printed` says.
+#![tactic(auto)]
+
 ghost use Rattle.std.specs.Prelude.{◌≤◌, ◌≡◌, true, false, length, take};
 ghost use Rattle.io.specs.Counts.{IsPrefixLen};
 ghost use Rattle.property_form.specs.Form.{form_size};
@@ -72,7 +74,7 @@ pub fn begun(fd: i32) -> Printed
 }
 
 // Which records stand behind the property: document 01's, or the tap card's.
-#[derive(Drop)]
+#[derive(Clone, Copy)]
 pub enum Form {
     Record,
     Tap,

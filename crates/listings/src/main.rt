@@ -1,5 +1,7 @@
 // The listings of the files that its arguments name, each after a line with the name: the printing program's many inputs for
 // the gate, which gives a program one standard input only. README.md says what each file of data/ is.
+#![tactic(auto)]
+
 use libc::STDOUT_FILENO;
 
 fn list_file(i: usize) {

@@ -1,4 +1,6 @@
 // What a cut stores: a set of what the matcher may remember there, in two words. No crate above looks inside them.
+#![tactic(auto)]
+
 ghost use Rattle.std.specs.Prelude.{ℕ, suc, ◌+◌, ◌^◌, ◌≤◌, ◌<◌, ◌≡◌, cond, get_or};
 ghost use Rattle.std.specs.Int.Bits.{bit_or};
 ghost use Rattle.meaning.specs.Matcher;
@@ -16,7 +18,7 @@ use property::Property;
 use table::Table;
 
 // The matched lengths that are not armed as a mask, and the armed word beside it: bit k + 1 is length k, armed, and bit 0 is broken.
-#[derive(Drop)]
+#[derive(Clone, Copy)]
 pub struct Cut {
     pub mask: u64,
     pub armed: u64,

@@ -1,4 +1,6 @@
 // A list of names: judged by its rules, and by what was read of it.
+#![tactic(auto)]
+
 ghost use Rattle.std.specs.Prelude.{◌≡◌, cond, ◌||◌, [], ◌∷◌, ◌<◌, length, ltb};
 ghost use Rattle.name_list.specs.Names.{any_outside, zero_bit_set, size_outside, entry_size, entry_broken, list_broken};
 ghost use Rattle.name_list.specs.Read.{list_size, list_refusal};

@@ -1,4 +1,6 @@
 // The listing with names: what the second program adds to it for each record.
+#![tactic(auto)]
+
 ghost use Rattle.std.specs.Prelude.{◌≡◌};
 ghost use Rattle.line_text.specs.Text.{text_of};
 ghost use Rattle.printout.specs.Named.{front_text};
@@ -12,7 +14,7 @@ use record_form::RecordRead;
 use session_record::Session;
 
 // What a record adds to the listing, and what the next one starts from.
-#[derive(Drop)]
+#[derive(Clone, Copy)]
 pub struct Named {
     pub text: NamedText,
     pub session: Session,

@@ -1,6 +1,8 @@
 // The second printing program, of document 02, CR 2: reads two lists of names from standard input, each behind two bytes of its length,
 // then a packed property and records, up to the end record and no further, and writes their listing with names to standard output.
 // What is written, the crate `named` says.
+#![tactic(auto)]
+
 ghost use Rattle.std.specs.Prelude.{◌≤◌, ◌≡◌, true, length};
 ghost use Rattle.io.specs.Counts.{IsPrefixLen};
 ghost use Rattle.session_record.specs.Step.{fresh_of};
@@ -12,7 +14,7 @@ use property::Property;
 use session_record::Session;
 
 // What was read of a list, and its refusal.
-#[derive(Drop)]
+#[derive(Clone, Copy)]
 struct ListRead {
     refusal: u64,
     len: usize,

@@ -1,4 +1,6 @@
 // The text of a line with a name: the line without one, and the name put behind its front.
+#![tactic(auto)]
+
 ghost use Rattle.std.specs.Prelude.{◌≡◌, [], ◌∷◌, ◌+◌, ◌-◌, ◌≤◌, ◌<◌, length, take, drop};
 ghost use Rattle.line_text.specs.Text.{room};
 ghost use Rattle.printout.specs.Named.{shown_name};
@@ -8,7 +10,7 @@ ghost use Rattle.named_text.specs.Behind.{Behind};
 use line_text::Text;
 
 // A line of the listing with names and its newline, and zeros behind it. The longest has 135 bytes.
-#[derive(Drop)]
+#[derive(Clone, Copy)]
 pub struct NamedText {
     pub bytes: [u8; 144],
     pub len: usize,

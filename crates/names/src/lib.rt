@@ -1,4 +1,6 @@
 // Names of actions: a site's list is asked first, and the release's second.
+#![tactic(auto)]
+
 ghost use Rattle.std.specs.Prelude.{◌≡◌, false, ◌≤◌};
 ghost use Rattle.name_list.specs.Names.{first_byte, list_broken, entries};
 ghost use Rattle.names.specs.Lookup.{names_refusal, name_span, wanted, asked, choice, Part, Handed};

@@ -1,4 +1,6 @@
 // A record on lent rows: as it was read, on the session.
+#![tactic(auto)]
+
 ghost use Rattle.table.specs.Table.{IsTable};
 ghost use Rattle.trace_form.specs.ReadAs.{case_as};
 ghost use Rattle.session_record.specs.Lent.{memory, Ready};

@@ -1,4 +1,6 @@
 // The run of a log that is open: its lines, kept in lent arrays beside the rows of the session.
+#![tactic(auto)]
+
 ghost use Rattle.std.specs.Prelude.{◌+◌, ◌^◌, ◌<◌, ◌≡◌, [], ◌∷◌, ◌++◌};
 ghost use Rattle.meaning.specs.Words.{Run};
 ghost use Rattle.trace_form.specs.ReadAs.{case_as};
@@ -16,7 +18,7 @@ use table::Table;
 use walk::Did;
 
 // What a record did, and what stands beside the rows and the arrays after it.
-#[derive(Drop)]
+#[derive(Clone, Copy)]
 pub struct Noted {
     pub did: Did,
     pub status: Status,
@@ -46,7 +48,7 @@ fn keep(
 }
 
 // What a record comes to.
-#[derive(Drop)]
+#[derive(Clone, Copy)]
 enum Outcome {
     // A line to be kept: is it an output, its action and its stamp.
     Line(bool, u8, u64),

@@ -1,4 +1,6 @@
 // The earliest moments of an order.
+#![tactic(auto)]
+
 ghost use Rattle.std.specs.Prelude.{ℕ, ◌+◌, ◌-◌, ◌≤◌, ◌<◌, max, ◌≡◌, cond, [], length, get_or, pos, ◌-ℤ◌};
 ghost use Rattle.laws.specs.Filled.{Filled};
 ghost use Rattle.meaning.specs.Limits.{last_stamp, last_bound};

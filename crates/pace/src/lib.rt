@@ -1,4 +1,6 @@
 // For the benchmark alone: the walk by value, called from C as often as is asked.
+#![tactic(auto)]
+
 ghost use Rattle.std.specs.Prelude.{◌≡◌};
 ghost use Rattle.pace.specs.Pace.{paced};
 

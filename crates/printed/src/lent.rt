@@ -14,7 +14,7 @@ use session_record::Answer;
 use table::Table;
 
 // What a record adds to the listing, and what stands beside the rows after it.
-#[derive(Drop)]
+#[derive(Clone, Copy)]
 pub struct Added {
     pub text: Text,
     pub status: Status,

@@ -1,4 +1,6 @@
 // What the printing program adds to its listing: nothing or its last line for the property, and a line for each record.
+#![tactic(auto)]
+
 pub mod lent;
 
 ghost use Rattle.std.specs.Prelude.{◌≡◌, ℕ, ◌≤◌, List, ◌∷◌};
@@ -11,7 +13,7 @@ use line_text::Text;
 use session_record::Session;
 
 // What one part of the input adds to the listing, and what the next part starts from.
-#[derive(Drop)]
+#[derive(Clone, Copy)]
 pub struct Printed {
     pub text: Text,
     pub session: Session,

@@ -1,4 +1,6 @@
 // The text of the listing of document 01, case 15: its header, a line for each record taken, and its last line.
+#![tactic(auto)]
+
 ghost use Rattle.std.specs.Prelude.{◌≡◌, ◌+◌, ◌≤◌};
 ghost use Rattle.line_text.specs.Text.{room, text_of};
 ghost use Rattle.line_text.specs.Append.{Added};

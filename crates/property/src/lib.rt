@@ -1,4 +1,6 @@
 // A property as plain data, and refusals 1, 2 and 3 of it.
+#![tactic(auto)]
+
 ghost use Rattle.std.specs.Prelude.{◌≡◌, ◌≤◌};
 ghost use Rattle.meaning.specs.Numbers.{property_refusal, any_action_above};
 ghost use Rattle.property.specs.Meant.{meant, sequence_of};
@@ -6,7 +8,7 @@ ghost use Rattle.property.specs.Zeros.{zeros};
 
 use limits::{LAST_ACTION, LAST_BOUND, MOST_ACTIONS};
 
-#[derive(Drop)]
+#[derive(Clone, Copy)]
 pub struct Property {
     // The length of the sequence; places from it on are not read.
     pub n: usize,

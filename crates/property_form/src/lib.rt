@@ -1,4 +1,6 @@
 // The packed property: its reader, the rest behind it, and its writer.
+#![tactic(auto)]
+
 mod read;
 mod write;
 
@@ -10,14 +12,14 @@ ghost use Rattle.property_form.specs.Read.{read, taken};
 ghost use Rattle.property_form.specs.Write.{written, left};
 
 // The refusal, and the property where it is 0; all zeros otherwise.
-#[derive(Drop)]
+#[derive(Clone, Copy)]
 pub struct PropertyRead {
     pub refusal: u64,
     pub property: property::Property,
 }
 
 // The refusal, and the number of bytes written where it is 0; 0 otherwise.
-#[derive(Drop)]
+#[derive(Clone, Copy)]
 pub struct Written {
     pub refusal: u64,
     pub size: usize,

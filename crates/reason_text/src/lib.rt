@@ -1,4 +1,6 @@
 // The text of the reasons of document 02, CR 6: a verdict with its line, and each line of an order with its moment.
+#![tactic(auto)]
+
 ghost use Rattle.std.specs.Prelude.{◌≡◌, ◌+◌, ◌≤◌, pos, nat_abs, ◌<ℤ◌};
 ghost use Rattle.line_text.specs.Text.{room, text_of};
 ghost use Rattle.line_text.specs.Append.{Added};

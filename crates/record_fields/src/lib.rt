@@ -1,4 +1,6 @@
 // The fields of a packed record, from its bytes: the kind, the action, the stamp.
+#![tactic(auto)]
+
 ghost use Rattle.std.specs.Prelude.{◌≡◌, ◌≤◌, length};
 ghost use Rattle.fields.specs.Fields.{field};
 

@@ -1,4 +1,6 @@
 // The packed record of document 01: its reader, the rest behind it, and its writer.
+#![tactic(auto)]
+
 ghost use Rattle.std.specs.Prelude.{◌≡◌, ◌++◌, ◌+◌, ◌≤◌, ◌<◌, length, drop, eqb};
 ghost use Rattle.fields.specs.Rest.{Rest};
 ghost use Rattle.record_form.specs.Record.{record_size, numbers, case_of, taken, answered, broken, stamp_above, fields_refusal, IsRead, bytes_read, write_refusal, record_form, IsWritten};
@@ -9,7 +11,7 @@ use limits::{LAST_ACTION, LAST_STAMP};
 pub const RECORD_SIZE: usize = 6;
 
 // What the reader answers: one of four records, or the number of a refusal.
-#[derive(Drop)]
+#[derive(Clone, Copy)]
 pub enum RecordRead {
     // The action and the stamp.
     Input(u8, u64),

@@ -1,6 +1,8 @@
 // The rows that a session lends, each of 65 words: row 0 has the stamps of the open inputs, row 1 the numbers of their actions, rows 2 + 2j
 // and 3 + 2j the two words of each cut of property j, one before each open input and one after all. The places of a row are a ring: behind
 // the last comes the first. Where an index stands in a row is said here and nowhere else.
+#![tactic(auto)]
+
 ghost use Rattle.std.specs.Prelude.{◌+◌, ◌≤◌, ◌<◌, ◌≡◌, length};
 ghost use Rattle.rows.specs.Rows.{last_place, Within, Room};
 ghost use Rattle.rows.specs.Rows;
@@ -12,7 +14,7 @@ pub const LAST_PLACE: usize = 64;
 pub type Words = [u64; 65];
 
 // Which places of the rows are in use: those of so many open inputs, and one more, from this one on.
-#[derive(Drop)]
+#[derive(Clone, Copy)]
 pub struct Span {
     pub start: usize,
     pub count: usize,

@@ -1,4 +1,6 @@
 // One line of the run that lent rows hold, with its answer; and the one cut that a run begins with.
+#![tactic(auto)]
+
 ghost use Rattle.std.specs.Prelude.{◌≡◌, cond, ◌+◌, ◌-◌, ◌≤◌, ◌<◌, length};
 ghost use Rattle.meaning.specs.Limits.{last_stamp, most_open};
 ghost use Rattle.meaning.specs.Matcher.{at_start};

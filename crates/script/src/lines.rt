@@ -5,7 +5,7 @@ use crate::arguments;
 pub const LINE: usize = 10;
 
 // A run of up to 512 lines, with zeros behind them.
-#[derive(Drop)]
+#[derive(Clone, Copy)]
 pub struct Run {
     pub output: [bool; 512],
     pub action: [u8; 512],

@@ -1,4 +1,6 @@
 // The calls on a session, by value: fresh, line, gap mark.
+#![tactic(auto)]
+
 ghost use Rattle.std.specs.Prelude.{◌≡◌};
 ghost use Rattle.meaning.specs.Calls.{Call, mark_at};
 ghost use Rattle.meaning.specs.Calls;

@@ -1,4 +1,6 @@
 // The session record, which the caller keeps; the rows of it that are lent, and the way back; what calls on it give back; refusal 10.
+#![tactic(auto)]
+
 ghost use Rattle.std.specs.Prelude.{◌+◌, ◌≤◌, ◌<◌, ◌≡◌, cond, length};
 ghost use Rattle.meaning.specs.Calls;
 ghost use Rattle.rows.specs.declared.Span.{Span};
@@ -16,7 +18,7 @@ use matcher::Cut;
 use property::Property;
 use rows::{LAST_PLACE, Span, Words};
 
-#[derive(Drop)]
+#[derive(Clone, Copy)]
 pub struct Session {
     pub property: Property,
     // The open inputs, the latest stamp, is it blind: what all properties of a log share.
@@ -26,7 +28,7 @@ pub struct Session {
 }
 
 // Refusal number, verdict and number open.
-#[derive(Drop)]
+#[derive(Clone, Copy)]
 pub struct Answer {
     pub refusal: u64,
     pub verdict: u64,
@@ -34,14 +36,14 @@ pub struct Answer {
 }
 
 // What a call gives back.
-#[derive(Drop)]
+#[derive(Clone, Copy)]
 pub struct Stepped {
     pub answer: Answer,
     pub session: Session,
 }
 
 // What a call on lent rows gives back beside them.
-#[derive(Drop)]
+#[derive(Clone, Copy)]
 pub struct Reply {
     pub answer: Answer,
     pub status: Status,
@@ -95,7 +97,7 @@ pub fn unfit(s: Session) -> bool
 }
 
 // Two rows, from the first place on: of the open inputs, or of the cuts.
-#[derive(Drop)]
+#[derive(Clone, Copy)]
 struct Pair {
     pub first: Words,
     pub second: Words,

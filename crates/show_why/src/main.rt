@@ -1,5 +1,7 @@
 // The program of document 02, CR 6: reads a packed property and then records from standard input, up to the end record and no
 // further, and writes why the run that is open there has its verdict. Of the log it keeps that run alone.
+#![tactic(auto)]
+
 ghost use Rattle.std.specs.Prelude.{◌+◌, ◌^◌, ◌≤◌, ◌<◌, ◌≡◌};
 ghost use Rattle.reasons.specs.Reasons.{most_lines};
 ghost use Rattle.meaning.specs.Numbers.{property_refusal};

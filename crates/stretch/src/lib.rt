@@ -1,4 +1,6 @@
 // The stretch judge: a whole packed property and a whole trace give a verdict and a count.
+#![tactic(auto)]
+
 ghost use Rattle.std.specs.Prelude.{◌≡◌};
 ghost use Rattle.meaning.specs.Numbers.{property_refusal};
 ghost use Rattle.property.specs.Meant.{meant};
@@ -19,7 +21,7 @@ const MOST_COUNTED: usize = 16383;
 const VERSION: u64 = 4;
 
 // Verdict and number of records taken, or the refusal alone.
-#[derive(Drop)]
+#[derive(Clone, Copy)]
 pub struct Judged {
     pub refusal: u64,
     pub verdict: u64,

@@ -1,4 +1,6 @@
 // The table of matched lengths: how long a beginning of a property's sequence ends what has happened after one more action.
+#![tactic(auto)]
+
 ghost use Rattle.std.specs.Prelude.{ℕ, ◌+◌, ◌≤◌, ◌<◌, ◌≡◌, length, get_or};
 ghost use Rattle.meaning.specs.Matcher;
 ghost use Rattle.meaning.specs.Numbers.{property_refusal};

@@ -1,4 +1,6 @@
 // The packed record of the tap card (document 02, CR 4): its reader, and the rest behind it.
+#![tactic(auto)]
+
 ghost use Rattle.std.specs.Prelude.{◌≡◌, ◌+◌, ◌%◌, ◌^◌, ◌<◌, ◌≤◌, length};
 ghost use Rattle.fields.specs.Fields.{field};
 ghost use Rattle.fields.specs.Rest.{Rest};

@@ -1,4 +1,6 @@
 // The walk: records of a trace, one after the other, on a session.
+#![tactic(auto)]
+
 ghost use Rattle.std.specs.Prelude.{◌≡◌, cond, length};
 ghost use Rattle.fields.specs.Rest.{Rest};
 ghost use Rattle.table.specs.Table.{IsTable};
@@ -18,7 +20,7 @@ use table::Table;
 const MOST_RECORDS: usize = 4096;
 
 // How a walk stopped.
-#[derive(Drop)]
+#[derive(Clone, Copy)]
 pub enum Stop {
     // The given number of records has been taken.
     Budget,
@@ -29,7 +31,7 @@ pub enum Stop {
 }
 
 // What a walk gives back.
-#[derive(Drop)]
+#[derive(Clone, Copy)]
 pub struct Walked {
     // The number of records taken; an end is not counted.
     pub taken: usize,
@@ -42,7 +44,7 @@ pub struct Walked {
 }
 
 // What one record did.
-#[derive(Drop)]
+#[derive(Clone, Copy)]
 pub enum Did {
     Took,
     Ended,
@@ -50,14 +52,14 @@ pub enum Did {
 }
 
 // What one record did, with the last gap's number of lost lines behind it if it was taken.
-#[derive(Drop)]
+#[derive(Clone, Copy)]
 pub struct Turn {
     pub did: Did,
     pub lost: u8,
 }
 
 // A walk on lent rows: what it did, and what stands beside the rows after it.
-#[derive(Drop)]
+#[derive(Clone, Copy)]
 pub struct Went {
     pub taken: usize,
     pub stop: Stop,

@@ -1,5 +1,7 @@
 // Document 02, CR 6, "Show me why": the orders of a run that are meant, and after which line its verdict was first told. A run is lent as
 // three lists: for each line whether it is an output, its action's number, its stamp.
+#![tactic(auto)]
+
 ghost use Rattle.judged_rest.specs.Lent.{lent};
 ghost use Rattle.first_order.specs.Search.{pair};
 ghost use Rattle.why.specs.Why.{IsReason};
