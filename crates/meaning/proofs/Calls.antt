@@ -88,8 +88,8 @@ module _ {p : Property} {Breaking : List Line → Type 0} (R : Reading p Breakin
 
   pub after_agrees : {w : Watch} {c : Cuts 𝓢.Set} → Agrees w c → (ks : List Call) → Agrees (watched p w ks) (cuts_after p 𝓢 c ks)
   unfolding watched cuts_after
-  after_agrees a [] = a
-  after_agrees a (k ∷ ks) = after_agrees (next_agrees a k) ks
+  after_agrees {w} {c} a [] = a
+  after_agrees {w} {c} a (k ∷ ks) = after_agrees {w = next p w k} {c = cuts_next p 𝓢 c k} (next_agrees a k) ks
 
   -- after any calls on a fresh session
   pub grown_agrees : (ks : List Call) → Agrees (watched p fresh ks) (cuts_after p 𝓢 (fresh_cuts p 𝓢) ks)

@@ -58,12 +58,12 @@ module _ (p : Property) (good : property_refusal (meant p) ≡ 0) where
   through_same : {c : Cuts Lengths} → Fit p c → (ks : List Call) → stepped_through (record_of p c) ks ≡ record_of p (after_by p c ks)
   unfolding stepped_through cuts_after
   through_same f [] = refl
-  through_same {c} f (k ∷ ks) = ap (λ (r : Stepped). stepped_through r.session ks) (step_same f k) ∙ through_same (next_fit p good f k) ks
+  through_same {c} f (k ∷ ks) = ap (λ (r : Stepped). stepped_through r.session ks) (step_same f k) ∙ through_same {c = next_by p c k} (next_fit p good f k) ks
 
   through_fit : {c : Cuts Lengths} → Fit p c → (ks : List Call) → Fit p (after_by p c ks)
   unfolding cuts_after
-  through_fit f [] = f
-  through_fit f (k ∷ ks) = through_fit (next_fit p good f k) ks
+  through_fit {c} f [] = f
+  through_fit {c} f (k ∷ ks) = through_fit {c = next_by p c k} (next_fit p good f k) ks
 
   -- From a fresh session, after any calls: the record is that of the session over cuts,
   pub grown_record : (ks : List Call) → stepped_through (record_of p (fresh_by p)) ks ≡ record_of p (grown (meant p) ks)

@@ -100,7 +100,7 @@ module _ (p : Property) (good : property_refusal (meant p) ≡ 0) (ls : Lines) (
   -- the next line is an input
   module _ (from : Reached) (q : State) (m x : ℕ) (nx : IsNext (kind_in ls.output false) from.input (count ls) x) (h : x < count ls) (is_x : x ≡ chosen from) where
     is_in : is_output ls x ≡ false
-    is_in = B.not_true (is_output ls x) (nx.found h)
+    is_in = B.not-true (is_output ls x) (nx.found h)
 
     abbrev next_in : Reached
     next_in = with_line p from false (get_or ls.action x 0) x
