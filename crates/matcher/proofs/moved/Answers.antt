@@ -1,0 +1,92 @@
+-- `matcher::moved` meets its contract: for an output outside the set, an allowed output, and an input.
+use Prim.Native.Nat.{ℕ, suc, ◌/◌, ◌%◌, ◌^◌, ◌≤◌, ◌<◌}
+use mathlib.Core.Path.{refl, sym, subst, ◌∙◌}
+use native.Mathlib.Omega.{arith}
+use lib.Dec.{ltb}
+use lib.Pow.{pow_pos}
+use Rattle.property.proofs.Refusal.{taken_bounds}
+use Rattle.matcher.proofs.Words.{fits_parts, armed-lt, with-lt}
+use Rattle.matcher.proofs.Moving.{StepAsks, step_asks, input_moves, allowed_moves, outside_moves}
+use Rattle.matcher.proofs.moved.Goals as goal
+
+pub step-free-requires : goal.step-free-requires
+step-free-requires c = 
+    let mask_low : c.args.cut.mask < 2 ^ suc c.args.p.n =
+        (fits_parts c.args.p c.args.cut c.requires.2).0 in
+    let asks : (m : ℕ) → m < 2 ^ suc c.args.p.n → StepAsks c.args.p c.args.table.now c.row-at.result m =
+        λ m low. let a = c.args in
+    step_asks a.p c.requires.0 a.table.now c.requires.1 a.output a.action c.row-at.result c.row-at.ensures m low in
+    asks _ mask_low
+
+pub arranged-requires : goal.arranged-requires
+arranged-requires c = 
+    let few : c.args.p.n ≤ 32 =
+        (taken_bounds c.args.p c.requires.0).most in
+    let cut = c.args.cut in
+    let broken = with-lt (cut.armed % 2) (ltb 0 (cut.armed / 2)) (omega arith) in
+    (few, c.step-free.ensures.1, pow_pos (suc c.args.p.n), subst (λ (m : ℕ). m < 2) (sym c.with_broken.ensures) broken)
+
+pub returns-then-outside : goal.returns-then-outside
+returns-then-outside c =     let a = c.args in
+    outside_moves a.p c.requires.0 a.table.now c.requires.1 a.output a.action c.row-at.result c.row-at.ensures a.cut c.requires.2
+    (sym (c.outside.ensures a.p refl) ∙ c.if-outside.true)
+    c.with_broken.ensures c.step-free.ensures.0 c.arranged.ensures
+
+pub step-free-requires-then-output : goal.step-free-requires-then-output
+step-free-requires-then-output c = 
+    let mask_low : c.args.cut.mask < 2 ^ suc c.args.p.n =
+        (fits_parts c.args.p c.args.cut c.requires.2).0 in
+    let armed-low : c.args.cut.armed / 2 < 2 ^ suc c.args.p.n =
+        let a = c.args in
+    armed-lt a.p.n a.cut.armed (fits_parts a.p a.cut c.requires.2).1 in
+    let asks : (m : ℕ) → m < 2 ^ suc c.args.p.n → StepAsks c.args.p c.args.table.now c.row-at.result m =
+        λ m low. let a = c.args in
+    step_asks a.p c.requires.0 a.table.now c.requires.1 a.output a.action c.row-at.result c.row-at.ensures m low in
+    asks _ (c.both.ensures.1 (suc c.args.p.n) mask_low armed-low)
+
+-- Here and below the bound is shown for 0 and for the armed lengths alike, so that what must fail does so by the set in `returns`.
+pub arranged-requires-then-output : goal.arranged-requires-then-output
+arranged-requires-then-output c = 
+    let armed-low : c.args.cut.armed / 2 < 2 ^ suc c.args.p.n =
+        let a = c.args in
+    armed-lt a.p.n a.cut.armed (fits_parts a.p a.cut c.requires.2).1 in
+    let few : c.args.p.n ≤ 32 =
+        (taken_bounds c.args.p c.requires.0).most in
+    (few, c.step-free-then-output.ensures.1, omega (arith, armed-low, pow_pos (suc c.args.p.n)), omega arith)
+
+pub returns-then-output : goal.returns-then-output
+returns-then-output c =     let a = c.args in
+    allowed_moves a.p c.requires.0 a.table.now c.requires.1 a.output a.action c.row-at.result c.row-at.ensures a.cut c.requires.2
+    c.if-output.true
+    (sym (c.outside.ensures a.p refl) ∙ c.if-outside.false)
+    c.both.ensures.0 c.step-free-then-output.ensures.0 c.arranged-then-output.ensures
+
+pub step-free-requires-2 : goal.step-free-requires-2
+step-free-requires-2 c = 
+    let mask_low : c.args.cut.mask < 2 ^ suc c.args.p.n =
+        (fits_parts c.args.p c.args.cut c.requires.2).0 in
+    let asks : (m : ℕ) → m < 2 ^ suc c.args.p.n → StepAsks c.args.p c.args.table.now c.row-at.result m =
+        λ m low. let a = c.args in
+    step_asks a.p c.requires.0 a.table.now c.requires.1 a.output a.action c.row-at.result c.row-at.ensures m low in
+    asks _ mask_low
+
+pub step-still-requires : goal.step-still-requires
+step-still-requires c = 
+    let armed-low : c.args.cut.armed / 2 < 2 ^ suc c.args.p.n =
+        let a = c.args in
+    armed-lt a.p.n a.cut.armed (fits_parts a.p a.cut c.requires.2).1 in
+    let asks : (m : ℕ) → m < 2 ^ suc c.args.p.n → StepAsks c.args.p c.args.table.now c.row-at.result m =
+        λ m low. let a = c.args in
+    step_asks a.p c.requires.0 a.table.now c.requires.1 a.output a.action c.row-at.result c.row-at.ensures m low in
+    asks _ (omega (arith, armed-low, pow_pos (suc c.args.p.n)))
+
+pub arranged-requires-2 : goal.arranged-requires-2
+arranged-requires-2 c = 
+    let few : c.args.p.n ≤ 32 =
+        (taken_bounds c.args.p c.requires.0).most in
+    (few, c.step-free-2.ensures.1, c.step-still.ensures.1, omega arith)
+
+pub returns : goal.returns
+returns c =     let a = c.args in
+    input_moves a.p c.requires.0 a.table.now c.requires.1 a.output a.action c.row-at.result c.row-at.ensures a.cut c.requires.2
+    c.if-output.false c.step-free-2.ensures.0 c.step-still.ensures.0 c.arranged-2.ensures

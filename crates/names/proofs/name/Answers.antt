@@ -1,0 +1,39 @@
+-- `names::name` meets its contract: the empty part where the call is refused, else what is found.
+use Prim.Native.Nat.{ℕ}
+use mathlib.Core.Path.{◌≡◌, refl, sym, ◌∙◌, ap}
+use native.Mathlib.Omega.{arith}
+use Rattle.name_list.specs.Names.{entries}
+use Rattle.names.specs.Lookup.{names_refusal, name_span, asked}
+use Rattle.names.proofs.Handing.{Taken, taken, handed_as, choice-taken, handed_end}
+use borrow.Author.Rules.{rules}
+use Rattle.names.proofs.name.Goals as goal
+
+pub returns-then-refused-ne0 : goal.returns-then-refused-ne0
+returns-then-refused-ne0 c =     let a = c.args in
+    handed_end a.site a.release _ a.output a.action (λ z. c.if-refused-ne0.true (c.refused.ensures ∙ z)) refl (omega arith) refl
+
+pub first_byte-requires : goal.first_byte-requires
+first_byte-requires c = 
+    let none : names_refusal c.args.site.now c.args.release.now c.args.action ≡ 0 =
+        sym c.refused.ensures ∙ c.if-refused-ne0.false in
+    let good : Taken c.args.site.now c.args.release.now c.args.action =
+        taken _ _ _ none in
+    good.action_fits
+
+pub found-requires : goal.found-requires
+found-requires c = 
+    let none : names_refusal c.args.site.now c.args.release.now c.args.action ≡ 0 =
+        sym c.refused.ensures ∙ c.if-refused-ne0.false in
+    let good : Taken c.args.site.now c.args.release.now c.args.action =
+        taken _ _ _ none in
+    let g = good in search (rules, g.site_good, g.release_good)
+
+pub returns : goal.returns
+returns c = 
+    let none : names_refusal c.args.site.now c.args.release.now c.args.action ≡ 0 =
+        sym c.refused.ensures ∙ c.if-refused-ne0.false in
+    let a = c.args in
+    handed_as _ _ a.site a.release _
+    (ap (λ (n : ℕ). asked (name_span (entries a.site.now) n) (name_span (entries a.release.now) n)) c.first_byte.ensures
+    ∙ sym (choice-taken a.site.now a.release.now a.output a.action none))
+    c.found.ensures

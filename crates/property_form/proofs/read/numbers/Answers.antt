@@ -1,0 +1,35 @@
+-- `property_form::read::numbers` meets its contract. The loop's invariant: the first i places are read, the others stand.
+use Prim.Native.Nat.{ℕ, ◌+◌, ◌-◌, ◌*◌}
+use mathlib.Core.Path.{refl, ap, ap₂, ◌∙◌}
+use mathlib.Core.List.{List}
+use native.Mathlib.Nat.{le_antisymm}
+use native.Mathlib.Omega.{arith}
+use borrow.Author.Rules.{rules}
+use lib.ListN.{set}
+use Rattle.laws.specs.Places.{first}
+use Rattle.fields.specs.Fields.{bit}
+use Rattle.fields.proofs.Laws.{bit-lt, number_lt}
+use Rattle.property_form.specs.Read.{places, number_read}
+use Rattle.property_form.proofs.Laws.{places_store}
+use Rattle.property_form.proofs.read.numbers.Goals as goal
+
+pub loop-i-init : goal.loop-i-init
+unfolding first
+loop-i-init c = (search rules, refl)
+
+pub narrow-requires : goal.narrow-requires
+narrow-requires c =     let s = c.args.s.now in
+    let i = c.loop-i.i in
+    omega (arith, number_lt (bit s) (bit-lt s) (59 + 7 * i) 6, c.field_at.ensures)
+
+pub loop-i-preserved : goal.loop-i-preserved
+loop-i-preserved c =     let s = c.args.s.now in
+    let l = c.loop-i in (
+      search rules,
+      ap₂ (λ (x : List ℕ) (y : ℕ). set x l.i y) l.invariant.1 (c.narrow.ensures ∙ c.field_at.ensures)
+          ∙ places_store (number_read s) 0 l.i (omega arith),
+    )
+
+pub returns : goal.returns
+returns c =     let a = c.args in
+    c.loop-i.invariant.1 ∙ ap (λ (k : ℕ). places (number_read a.s.now) k 0) (le_antisymm c.loop-i.invariant.0 c.loop-i-test.false)

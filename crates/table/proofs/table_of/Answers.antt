@@ -1,0 +1,57 @@
+-- `table::table_of` meets its contract. The loop: the rows of the first i places are right, and every row is right or still empty.
+use borrow.Author.Rules.{rules}
+use Prim.Native.Nat.{ℕ, ◌+◌, ◌-◌, ◌≤◌, ◌<◌}
+use mathlib.Core.Path.{◌≡◌, sym, subst}
+use mathlib.Core.List.{List}
+use mathlib.Core.Logic.{⊎_elim}
+use mathlib.Core.Bool.{false}
+use native.Mathlib.Omega.{arith}
+use lib.ListN.{get_or}
+use Rattle.table.proofs.TableRows.{row_le, Making, making_none, making_filled, making_left, made}
+use Rattle.table.proofs.table_of.Goals as goal
+
+pub loop-i-init : goal.loop-i-init
+loop-i-init c =     let a = c.args in
+    let pre = c.requires.0 in
+    (omega arith, making_none a.outputs.now a.numbers.now a.n pre.0 a.table.now pre.1 pre.2)
+
+pub bounds-table-at : goal.bounds-table-at
+bounds-table-at c = 
+    let at-le : c.row-at.result ≤ 4224 =
+        let a = c.args in
+    omega (arith, c.row-at.ensures, row_le (get_or a.outputs.now c.loop-i.i false) (get_or a.numbers.now c.loop-i.i 0)) in
+    omega (arith, at-le)
+
+pub fill_row-requires : goal.fill_row-requires
+fill_row-requires c =     ((omega arith, c.loop-i.invariant.1.long), c.shorter-falls.ensures)
+
+pub loop-i-preserved : goal.loop-i-preserved
+loop-i-preserved c = 
+    let named : c.loop-i.i < c.args.n → get_or c.args.numbers.now c.loop-i.i 0 ≤ 63 =
+        λ h. c.requires.1 c.loop-i.i h in
+    let a = c.args in
+    let w = c.loop-i in (
+      search rules,
+      ⊎_elim
+          (λ d.
+          subst (λ (t : List ℕ). Making a.outputs.now a.numbers.now a.n (w.i + 1) t) (sym d.4)
+          (making_filled a.outputs.now a.numbers.now a.n (omega arith) w.i w.table d.3.last.1.1.1.1.1.1.0 w.invariant.1
+          (named (omega arith)) d.3.ensures))
+          (λ d.
+          subst (λ (t : List ℕ). Making a.outputs.now a.numbers.now a.n (w.i + 1) t) (sym d.1)
+          (making_left a.outputs.now a.numbers.now a.n (omega arith) w.i w.table w.invariant.1 (omega arith)
+          (subst (λ (x : ℕ). get_or w.table (x + w.i) 0 ≡ 0 → ⊥) c.row-at.ensures d.0.false)))
+          c.if-table-at-eq0.branch,
+    )
+
+pub returns : goal.returns
+returns c =     let a = c.args in
+    let w = c.loop-i in
+    made a.outputs.now a.numbers.now a.n w.i w.table c.loop-i-test.false w.invariant.1
+
+-- TODO -- no new name for overflow-cast-row
+-- TODO cast-row : tie.Need-overflow-cast-row invariant-loop decreases-loop
+-- TODO cast-row c = record { fits = omega (arith, named (turn c) (omega arith)) }
+-- TODO -- no new name for overflow-add-if1
+-- TODO add-if1 : tie.Need-overflow-add-if1 invariant-loop decreases-loop
+-- TODO add-if1 c = record { fits = omega (arith, at-le c) }

@@ -1,0 +1,24 @@
+-- `walk::done` meets its contract: the session refused the record, or what was read, kind by kind.
+use mathlib.Core.Path.{refl, sym}
+use Rattle.meaning.proofs.Refusals.{unless_kept}
+use Rattle.one_record.proofs.Takes.{kind_known}
+use Rattle.walk.specs.Lent.{kind_turn}
+use Rattle.walk.proofs.done.Goals as goal
+
+pub returns-then-refusal-ne0 : goal.returns-then-refusal-ne0
+returns-then-refusal-ne0 c = sym (unless_kept _ _ _ c.if-refusal-ne0.true)
+
+pub returns-in-Input : goal.returns-in-Input
+returns-in-Input c = kind_known (kind_turn _) _ c.if-refusal-ne0.false c.enum_told-1.given.1 c.took.ensures
+
+pub returns-in-Output : goal.returns-in-Output
+returns-in-Output c = kind_known (kind_turn _) _ c.if-refusal-ne0.false c.enum_told-in-Output-1.given.1 c.took-in-Output.ensures
+
+pub returns-in-Gap : goal.returns-in-Gap
+returns-in-Gap c = kind_known (kind_turn _) _ c.if-refusal-ne0.false c.read-1.given.1 c.took-in-Gap.ensures
+
+pub returns-in-End : goal.returns-in-End
+returns-in-End c = kind_known (kind_turn _) _ c.if-refusal-ne0.false c.enum_told-in-End-1.given.1 refl
+
+pub returns-in-Refused : goal.returns-in-Refused
+returns-in-Refused c = kind_known (kind_turn _) _ c.if-refusal-ne0.false c.read-in-Refused-1.given.1 refl
