@@ -12,6 +12,7 @@ import sys
 LETTER = r"A-Za-z0-9_'\u2032\u2080-\u2089*\u00b9\u00b2\u2113\u2115\u2124\u2261\u2264"
 NAME = re.compile(rf"[A-Za-z][{LETTER}]*(?:-[{LETTER}]+)*")
 DECLARED = re.compile(r"^\s*(?:(?:abbrev|pub|unfoldable|pattern|axiom) )*(?P<name>\S+)(?: \{[^}]*\})* :(?: |$)")
+ALIAS = re.compile(r" as ([a-z][^\s,}]*)[,}]")
 KEEP = re.compile(r"^(?:Need|After|In|At|Then|Else|Start|Untold)-")
 GOALS = re.compile(r":\s*(?:tie|goal)\.")
 STD = set("length append take drop set get_or map reverse replicate paste sets bit_and bit_or ltb eqb leb cond min max zero suc "
@@ -48,6 +49,8 @@ def declared(path):
         m = DECLARED.match(code)
         if m and not GOALS.search(code) and NAME.fullmatch(m["name"]):
             yield m["name"]
+        if code.lstrip().startswith(("use ", "pub use ")):
+            yield from (it for it in ALIAS.findall(code) if NAME.fullmatch(it))
 
 
 def underscored(name):

@@ -23,7 +23,7 @@ use Rattle.stays_told.proofs.NeverFalls.{never_falls, never_falls_after}
 use Rattle.stays_told.proofs.Calls.{closed-not-above, standing_stays, answers_stay, has-verdict}
 use Rattle.property.specs.Meant.{meant}
 use Rattle.property.specs.declared.Property as Data
-use Rattle.property_form.specs.Read.{property_read, read_refusal as property-read-refusal, taken as property-taken}
+use Rattle.property_form.specs.Read.{property_read, read_refusal as property-read_refusal, taken as property-taken}
 use Rattle.property_form.specs.Read
 use Rattle.record_form.specs.Record.{Reader, Bytes, record_answer}
 use Rattle.trace_form.specs.Trace.{trace_form}
@@ -57,8 +57,8 @@ use Rattle.demands.proofs.Listing.{ShownBy, read_good, listing_shown}
 pub use Rattle.demands.proofs.Listing.{listing_count}
 use Rattle.demands.proofs.Forms.{fresh-number}
 -- "Packed properties and traces read back as written, and only one packing of each is taken."
-pub use Rattle.property_form.proofs.RoundTrip.{write_then_read as property-reads-back, write_then_rest as property-rest-back, read_then_write as property-writes-back, one_packing as property-one-packing}
-pub use Rattle.record_form.proofs.RoundTrip.{write_then_read as record-reads-back, read_then_write as record-writes-back, record_one_packing}
+pub use Rattle.property_form.proofs.RoundTrip.{write_then_read as property_reads_back, write_then_rest as property_rest_back, read_then_write as property_writes_back, one_packing as property_one_packing}
+pub use Rattle.record_form.proofs.RoundTrip.{write_then_read as record_reads_back, read_then_write as record_writes_back, record_one_packing}
 pub use Rattle.trace_form.proofs.Trace.{trace_reads_back, trace_writes_back, trace_one_packing}
 pub use Rattle.demands.proofs.Written.{written_trace}
 pub use Rattle.demands.proofs.Forms.{begins_one_packing}
@@ -74,7 +74,7 @@ pub use Rattle.demands.proofs.Digits.{decimal-reads}
 pub use Rattle.demands.proofs.Texts.{demand_header, demand_last, demand_line, demand_named_line, demand_reached, demand_placed, demand_alone}
 pub use Rattle.demands.proofs.Printed.{text-kept, demand_size, demand_begun, demand_printed, demand_named_record}
 -- Names (document 02, CR 2): the lists bit by bit; `names::refused` and `name`, the listing with names.
-pub use Rattle.demands.proofs.Lists.{list_taken, list_back, list-one-packing, one_list, one_entry, two-packed, two-read, size-read, demand_1_lists}
+pub use Rattle.demands.proofs.Lists.{list_taken, list_back, list_one_packing, one_list, one_entry, two-packed, two-read, size-read, demand_1_lists}
 pub use Rattle.demands.proofs.Names.{demand_1_names, demand_name, name_handed, demand_named}
 -- Why a run has its verdict (document 02, CR 6), in `Why`: `why::explain`, and the moments that are shown.
 pub use Rattle.demands.proofs.Placed.{not_twice}
@@ -263,7 +263,7 @@ demand_1_walk s bytes budget =
 -- number is that of the one verdict that stands after them (`JudgeTaken`).
 pub demand_1_judge : (property trace : List ℕ)
     → Refuses (judge_of property trace).refusal
-    (first_of (property-read-refusal property)
+    (first_of (property-read_refusal property)
     (first_of (given 8 (ltb (property-taken property) (length property))) (first_met (length trace) (meant (property_read property)) fresh trace)))
     (λ n. judge_of property trace ≡ record { refusal = n; verdict = 0; count = 0 })
 demand_1_judge property trace = record { first = judge_first property trace; alone = judge_alone property trace }

@@ -30,7 +30,7 @@ use Rattle.walk.specs.Walk.{One, one_call, one_read, one_of, stopped, walked_by,
 use Rattle.printout.specs.Text.{line_text, stop_text}
 use Rattle.printed.specs.Printed.{one_after, call_text, last_line, by_one, printed_by, printed_of}
 use Rattle.printed.specs.Listing.{lines_by, records_by}
-use Rattle.printed.proofs.Listing.{took-line, refused-line, end_line as end-line-of}
+use Rattle.printed.proofs.Listing.{took-line, refused-line, end_line as end-line_of}
 use Rattle.demands.specs.Traces.{calls_of, BeginsBy, behind_by, TakenOneByOne}
 use Rattle.demands.specs.Texts.{Row, row_text, all_rows, end_line, stop_line}
 use Rattle.demands.specs.Listing.{Rows, counted, LastLine}
@@ -87,7 +87,7 @@ plain size reader reads =
     record {
       row = row_text;
       lines = lines_by size reader;
-      at_end = λ most s count bytes fits e. end-line-of size reader reads most s count bytes fits e ∙ (demand_last count 0).0;
+      at_end = λ most s count bytes fits e. end-line_of size reader reads most s count bytes fits e ∙ (demand_last count 0).0;
       at-refusal = λ most s count bytes fits x e n q. refused-line size reader reads most s count bytes fits x e n q ∙ (demand_last count n).1;
       at_call = called;
     }

@@ -19,7 +19,7 @@ use Rattle.name_list.proofs.Good.{good_long}
 use Rattle.name_list.proofs.Packed.{good_packs, packed_good}
 -- Two lists that are taken with the same entries, or that give every action the same name, are the same bytes; an action has at most one
 -- entry.
-pub use Rattle.name_list.proofs.Packed.{one_packing as list-one-packing, one_entry}
+pub use Rattle.name_list.proofs.Packed.{one_packing as list_one_packing, one_entry}
 pub use Rattle.name_list.proofs.Meaning.{one_list}
 use Rattle.name_list.specs.Read.{list_size, list_refusal}
 use Rattle.named.specs.Listing.{list_at}

@@ -10,7 +10,7 @@ use lib.Dec.{ltb, eqb}
 use borrow.Author.Tests.{le-ltb}
 use Rattle.meaning.specs.Words.{Property}
 use Rattle.meaning.specs.Numbers.{given, first_of}
-use Rattle.meaning.specs.Calls.{Call, Watch, mark_at, stamp_refusal, refusal, taken as watch-taken, unless_refused, next, watched}
+use Rattle.meaning.specs.Calls.{Call, Watch, mark_at, stamp_refusal, refusal, taken as watch_taken, unless_refused, next, watched}
 use Rattle.meaning.specs.Calls.{Answer, AnswerBy, IsAnswer}
 use Rattle.meaning.specs.History.{stamp_of as call-stamp}
 use Rattle.fields.specs.Fields.{field}
@@ -74,7 +74,7 @@ same-refusal p w lost other stamp h k =
 same_next : (p : Property) {c d : Call} → SameCall c d → (w : Watch) → next p w c ≡ next p w d
 same_next p (SameCall.line l) w = refl
 same_next p (SameCall.mark lost other stamp h k) w =
-    ap (λ (n : ℕ). unless_refused n (watch-taken p w (mark_at lost stamp)) w) (same-refusal p w lost other stamp h k)
+    ap (λ (n : ℕ). unless_refused n (watch_taken p w (mark_at lost stamp)) w) (same-refusal p w lost other stamp h k)
 
 pub same-watched : (p : Property) {calls others : List Call} → SameCalls calls others → (w : Watch) → watched p w calls ≡ watched p w others
 unfolding watched

@@ -12,7 +12,7 @@ use Rattle.meaning.specs.Numbers.{given, first_of, property_refusal}
 use Rattle.laws.proofs.Places.{first-same}
 use Rattle.property.specs.Meant.{action_of, meant}
 use Rattle.property.specs.declared.Property.{Property}
-use Rattle.property_form.specs.Read.{property_read, read_refusal as property-read-refusal, taken as property-taken}
+use Rattle.property_form.specs.Read.{property_read, read_refusal as property-read_refusal, taken as property-taken}
 use Rattle.property_form.specs.Read
 use Rattle.property_form.specs.Write
 use Rattle.property_form.proofs.Answers.{read-refused, taken_none, taken-all, refusal-read, property_of_read, written-refused, left-refused}
@@ -39,7 +39,7 @@ pub demand_1_read_property : (s : List ℕ)
     (first_of (given 8 (not (eqb (field s (122 + 7 * field s 0 6) (8 * property_bytes (field s 0 6) - (122 + 7 * field s 0 6))) 0)))
     (property_refusal (meant (property_read s)))))
     (λ n. (Read.read s ≡ record { refusal = n; property = zero_property }) × (property-taken s ≡ 0))
-unfolding Read.read property-read-refusal
+unfolding Read.read property-read_refusal
 demand_1_read_property s =
     record {
       first = refl;
@@ -51,7 +51,7 @@ pub demand_read_property : (s : List ℕ) → (Read.read s).refusal ≡ 0
     → PropertyFields s (meant (Read.read s).property) × (property-taken s ≡ property_bytes (field s 0 6))
 unfolding property_read
 demand_read_property s e =
-    let r : property-read-refusal s ≡ 0 = sym (refusal-read s) ∙ e in
+    let r : property-read_refusal s ≡ 0 = sym (refusal-read s) ∙ e in
     (subst (λ (p : Property). PropertyFields s (meant p)) (sym (property_of_read s r)) fields, taken-all s r)
   where
     by : (o : Bool) (k : ℕ) → action_of o k ≡ action_if o k

@@ -8,7 +8,7 @@ use lib.Dec.{T, leb→le, nleb→lt}
 use Rattle.meaning.specs.Words.{Property, Line, StampsFrom}
 use Rattle.meaning.specs.Calls.{is_open}
 use Rattle.meaning.specs.Step.{Sets, Held, Front, closed}
-use Rattle.meaning.proofs.Lists.{All, done, also, all_map, from_all, snoc-append}
+use Rattle.meaning.proofs.Lists.{All, done, also, all_map, from_all, snoc_append}
 use Rattle.meaning.proofs.Fronts.{lines}
 use Rattle.meaning.proofs.Sets.{Reading}
 use Rattle.meaning.proofs.Ways.{Right, last, cut}
@@ -52,5 +52,5 @@ module _ {p : Property} {Breaking : List Line → Type 0} (R : Reading p Breakin
             split = ap (λ (l : List Line). h.line ∷ l) k.split;
             closed_now = also (n tt) k.closed_now;
             open_still = k.open_still;
-            right = subst (λ (l : List Line). Right R O l g.before g.held) (snoc-append behind h.line k.gone) k.right;
+            right = subst (λ (l : List Line). Right R O l g.before g.held) (snoc_append behind h.line k.gone) k.right;
           }

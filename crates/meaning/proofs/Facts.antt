@@ -8,7 +8,7 @@ use lib.ListN.{length, length-append, take, drop, take-append-drop, length-take}
 use Rattle.meaning.specs.Words.{Action, Property, Line, Run, StampsFrom}
 use Rattle.meaning.specs.Node.{ins, outs, Order, Timed, Explanation, InputFirst, OutputFirst, Possible, CutRule, Some, Verdict, VerdictFor}
 use Rattle.meaning.proofs.Lists.{All, done, also, all_head, all_left, all_right, all_map, all_both}
-use Rattle.meaning.proofs.Lists.{all-ins, all-outs, all_channels, from_ins, from_outs, ins-append, outs-append, snoc-append}
+use Rattle.meaning.proofs.Lists.{all-ins, all-outs, all_channels, from_ins, from_outs, ins-append, outs-append, snoc_append}
 use Rattle.meaning.proofs.Pairs.{Bounds, May, Pairs, none, first, Cross, pairs_append, pairs_cross, timed_pairs, pairs_timed}
 use Rattle.meaning.proofs.Channels.{In, Out, ins_in, outs-out, in_in, out-out, in_out, out_in, in_out_asks}
 use Rattle.meaning.proofs.Channels.{out_in_asks, from_left, from_right, from_cross, innermost, merged, merged_ins, merged_outs, merged_pairs}
@@ -115,7 +115,7 @@ module _ (p : Property) (b : Bounds p) where
           input_first = λ x y m n.
               let si : (ins u ≡ m.before ++ x ∷ []) × (ins v ≡ m.after) =
               split_same (ins u) (ins v) (m.before ++ x ∷ []) m.after
-              (sym (ins-append u v) ∙ e.is_order.inputs_kept ∙ m.stands ∙ sym (snoc-append m.before x m.after))
+              (sym (ins-append u v) ∙ e.is_order.inputs_kept ∙ m.stands ∙ sym (snoc_append m.before x m.after))
               (omega (arith, length-append m.before (x ∷ []), m.counted)) in
               let so : (outs u ≡ n.before) × (outs v ≡ y ∷ n.after) =
               split_same (outs u) (outs v) n.before (y ∷ n.after)
@@ -134,7 +134,7 @@ module _ (p : Property) (b : Bounds p) where
               (omega (arith, m.counted)) in
               let so : (outs u ≡ n.before ++ y ∷ []) × (outs v ≡ n.after) =
               split_same (outs u) (outs v) (n.before ++ y ∷ []) n.after
-              (sym (outs-append u v) ∙ e.is_order.outputs_kept ∙ n.stands ∙ sym (snoc-append n.before y n.after))
+              (sym (outs-append u v) ∙ e.is_order.outputs_kept ∙ n.stands ∙ sym (snoc_append n.before y n.after))
               (omega (arith, length-append n.before (y ∷ []), n.counted)) in
               let ys : All (λ z. Out z × All (May p z) v) (n.before ++ y ∷ []) =
               subst (All (λ z. Out z × All (May p z) v)) so.0 (all_both (outs-out u) (all-outs (pairs_cross u v (explains_pairs e)))) in
@@ -156,7 +156,7 @@ module _ (p : Property) (b : Bounds p) where
         (record {
           before = bs;
           after = B;
-          stands = ei ∙ ap (λ (l : List Line). l ++ B) ea ∙ snoc-append bs x B;
+          stands = ei ∙ ap (λ (l : List Line). l ++ B) ea ∙ snoc_append bs x B;
           counted = sym (omega (arith, length-append bs (x ∷ []), ap length ea)) ∙ hi;
         })
         (record { before = C; after = ds; stands = eo ∙ ap (λ (l : List Line). C ++ l) ed; counted = ap suc hq }))
@@ -173,7 +173,7 @@ module _ (p : Property) (b : Bounds p) where
         (record {
           before = bs;
           after = D;
-          stands = eo ∙ ap (λ (l : List Line). l ++ D) ec ∙ snoc-append bs y D;
+          stands = eo ∙ ap (λ (l : List Line). l ++ D) ec ∙ snoc_append bs y D;
           counted = sym (omega (arith, length-append bs (y ∷ []), ap length ec)) ∙ hq;
         }))
 
@@ -261,7 +261,7 @@ module _ (p : Property) (b : Bounds p) where
             → (u v : List Line) → order ≡ u ++ v → Pairs p v
         all_pairs c u [] s = none
         all_pairs c u (y ∷ v) s =
-            let s' : order ≡ (u ++ y ∷ []) ++ v = s ∙ sym (snoc-append u y v) in
+            let s' : order ≡ (u ++ y ∷ []) ++ v = s ∙ sym (snoc_append u y v) in
             first (all_head (all_right u (y ∷ []) (one (u ++ y ∷ []) v s' (c (u ++ y ∷ []) v s')))) (all_pairs c (u ++ y ∷ []) v s')
 
         back : ((u v : List Line) → order ≡ u ++ v → Possible p run (length (ins u)) (length (outs u))) → Explanation p run order

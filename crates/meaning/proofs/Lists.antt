@@ -4,7 +4,7 @@ use native.Mathlib.Nat.{le_trans}
 use mathlib.Core.Path.{Path, ◌≡◌, refl, sym, ap}
 use mathlib.Core.Logic.{◌⊎◌, inl, inr}
 use mathlib.Core.List.{List, [], ◌∷◌, ◌++◌, map, head-eq_of_cons-eq, tail-eq_of_cons-eq, nil≢cons}
-pub use lib.Seq.{append_snoc as snoc-append}
+pub use lib.Seq.{append_snoc as snoc_append}
 use Rattle.meaning.specs.Words.{Action, Line, StampsFrom}
 use Rattle.meaning.specs.Node.{keep_input, keep_output, ins, outs}
 

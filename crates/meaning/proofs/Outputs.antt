@@ -8,7 +8,7 @@ use native.Mathlib.Omega.{arith}
 use lib.Dec.{T, leb, leb→le, le→leb}
 use Rattle.meaning.specs.Words.{Property, Line, StampsFrom}
 use Rattle.meaning.specs.Step.{Sets, Held, swept, swept_one}
-use Rattle.meaning.proofs.Lists.{All, done, also, all_head, all_tail, all_append, all_left, all_right, all_map, all_both, all-outs, same_end, snoc-append}
+use Rattle.meaning.proofs.Lists.{All, done, also, all_head, all_tail, all_append, all_left, all_right, all_map, all_both, all-outs, same_end, snoc_append}
 use Rattle.meaning.proofs.Pairs.{May, pairs_cross}
 use Rattle.meaning.proofs.Channels.{In, Out, in_out, in_out_asks, out_in_asks, from_left, last-highest}
 use Rattle.meaning.proofs.Fronts.{lines, swept_lines}
@@ -116,7 +116,7 @@ module _ {p : Property} {Breaking : List Line → Type 0} (R : Reading p Breakin
   swept-right hi hh t f ha (last e) ec = last ec
   swept-right {behind} {a} {c} hi hh t f ha (cut {h = h} {hs = hs} e r) ec =
       let x : Line = h.line in
-      let f' : StampsFrom t ((behind ++ x ∷ []) ++ lines hs) = subst (StampsFrom t) (sym (snoc-append behind x (lines hs))) f in
+      let f' : StampsFrom t ((behind ++ x ∷ []) ++ lines hs) = subst (StampsFrom t) (sym (snoc_append behind x (lines hs))) f in
       let low : All (λ (z : Line). z.stamp ≤ x.stamp) (behind ++ x ∷ []) = last-highest t behind x (from_left t (behind ++ x ∷ []) (lines hs) f') in
       let n : Exact R (O ++ y ∷ []) (behind ++ x ∷ []) (lines hs) (swept_one p 𝓢 y c h) =
       next_cut h (all_head hh) hi (all_left behind (x ∷ []) low) (all_tail ha) ec (here R r) in

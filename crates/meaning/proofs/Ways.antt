@@ -6,7 +6,7 @@ use mathlib.Core.List.{List, [], ◌∷◌, ◌++◌, append-nil}
 use Rattle.meaning.specs.Words.{Property, Line}
 use Rattle.meaning.specs.Node.{ins, outs}
 use Rattle.meaning.specs.Step.{Sets, Held, last_set}
-use Rattle.meaning.proofs.Lists.{All, all-ins, all_channels, Ended, empty, ended, end_of, same_end, not_empty, snoc-append}
+use Rattle.meaning.proofs.Lists.{All, all-ins, all_channels, Ended, empty, ended, end_of, same_end, not_empty, snoc_append}
 use Rattle.meaning.proofs.Pairs.{May, Pairs}
 use Rattle.meaning.proofs.Channels.{IsIn, IsOut, In, Out, in_or_out}
 use Rattle.meaning.proofs.Fronts.{lines}
@@ -47,7 +47,7 @@ module _ {p : Property} {Breaking : List Line → Type 0} (R : Reading p Breakin
   unfolding last_set
   last-exact {O} {behind} {a} (last e) = subst (λ (l : List Line). Exact O l [] a) (sym (append-nil behind)) e
   last-exact {O} {behind} (cut {h = h} {hs = hs} e r) =
-      subst (λ (l : List Line). Exact O l [] (last_set p 𝓢 h.after hs)) (snoc-append behind h.line (lines hs)) (last-exact r)
+      subst (λ (l : List Line). Exact O l [] (last_set p 𝓢 h.after hs)) (snoc_append behind h.line (lines hs)) (last-exact r)
 
   -- one line more at the end of a way
   module _ {O behind ahead : List Line} where
@@ -57,7 +57,7 @@ module _ {p : Property} {Breaking : List Line → Type 0} (R : Reading p Breakin
           order = w.order ++ x ∷ [];
           ins_are = ins_last_in w.order x i ∙ ap (λ (l : List Line). l ++ x ∷ []) w.ins_are;
           outs_are = outs_last_in w.order x i ∙ w.outs_are;
-          pairs = subst (Pairs p) (sym (snoc-append w.order x ahead)) w.pairs;
+          pairs = subst (Pairs p) (sym (snoc_append w.order x ahead)) w.pairs;
           remembers = along_last M M.begin w.order x ∙ ap (λ (q : M.State). M.step q x) w.remembers ∙ e;
         }
 
@@ -98,7 +98,7 @@ module _ {p : Property} {Breaking : List Line → Type 0} (R : Reading p Breakin
                 order = v;
                 ins_are = refl;
                 outs_are = sym (outs_last_in v z h) ∙ o;
-                pairs = subst (Pairs p) (snoc-append v z ahead) c;
+                pairs = subst (Pairs p) (snoc_append v z ahead) c;
                 remembers = refl;
               })
               step_eq

@@ -8,7 +8,7 @@ use mathlib.Core.List.{List, [], ◌∷◌, ◌++◌, map, append-nil}
 use Rattle.meaning.specs.Words.{Property, Line, Run}
 use Rattle.meaning.specs.Numbers.{first_of}
 use Rattle.meaning.specs.Calls.{Call, Clock, ticked, Watch, refusal, taken, watched, AllTaken}
-use Rattle.meaning.proofs.Lists.{snoc-append}
+use Rattle.meaning.proofs.Lists.{snoc_append}
 use Rattle.meaning.proofs.Refusals.{first_of-none, unless_taken}
 use Rattle.meaning.proofs.Clocks.{open_watch}
 use Rattle.reasons.specs.Reasons.{lines_refusal}
@@ -32,7 +32,7 @@ module _ (p : Property) where
       let parts = first_of-none (refusal p (open_watch run clock) (Call.line l)) e in
       let r = takes_all (run ++ l ∷ []) lines (ticked clock l false) parts.1 in
       let longer : open_watch ((run ++ l ∷ []) ++ lines) r.1.0 ≡ open_watch (run ++ l ∷ lines) r.1.0 =
-      ap (λ (x : Run). open_watch x r.1.0) (snoc-append run l lines) in
+      ap (λ (x : Run). open_watch x r.1.0) (snoc_append run l lines) in
       ((parts.0, r.0), (r.1.0, goes_on (open_watch run clock) l (as_calls lines) parts.0 ∙ r.1.1 ∙ longer))
 
   -- Or the number is that of the first that is not taken.

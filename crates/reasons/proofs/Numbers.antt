@@ -8,7 +8,7 @@ use lib.ListN.{length, length-append, get_or, drop}
 use Rattle.meaning.specs.Words.{Action, Line, Run}
 use Rattle.meaning.specs.Node.{ins, outs, keep_input, keep_output, Order}
 use Rattle.meaning.specs.Matcher.{is_input}
-use Rattle.meaning.proofs.Lists.{snoc-append}
+use Rattle.meaning.proofs.Lists.{snoc_append}
 use Rattle.reasons.specs.Reasons.{numbers_of, gets_in, goes_out, numbered, line_numbers, Names}
 
 -- one line on
@@ -16,7 +16,7 @@ on_by_one : (f : Line → Bool) (before : List Line) (l : Line) (rest kept : Lis
     → Names ((before ++ l ∷ []) ++ rest) (numbers_of f (suc (length (before ++ l ∷ []))) rest) kept
     → Names (before ++ l ∷ rest) (numbers_of f (suc (suc (length before))) rest) kept
 on_by_one f before l rest kept h =
-    subst (λ (run : Run). Names run (numbers_of f (suc (suc (length before))) rest) kept) (snoc-append before l rest)
+    subst (λ (run : Run). Names run (numbers_of f (suc (suc (length before))) rest) kept) (snoc_append before l rest)
     (subst (λ (k : ℕ). Names ((before ++ l ∷ []) ++ rest) (numbers_of f (suc k) rest) kept)
     (let e : length (before ++ l ∷ []) ≡ suc (length before) = omega (arith, length-append before (l ∷ [])) in e) h)
 

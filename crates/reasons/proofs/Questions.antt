@@ -10,7 +10,7 @@ use Rattle.meaning.specs.Words.{Action, Property, Line, Run, StampsFrom}
 use Rattle.meaning.specs.Node.{VerdictFor}
 use Rattle.meaning.specs.Calls.{is_open, open_at}
 use Rattle.meaning.specs.Step.{Sets, Held, Front, last_set, closed, appended, swept_one, swept, front_next, front_with, verdict_of, front_verdict}
-use Rattle.meaning.proofs.Lists.{All, also, snoc-append}
+use Rattle.meaning.proofs.Lists.{All, also, snoc_append}
 use Rattle.meaning.proofs.Sets.{Matcher, along, Reading}
 use Rattle.meaning.proofs.Exact.{Fits, fresh-fits, front_fits, held-is_open, front_verdict-exact}
 
@@ -131,7 +131,7 @@ module _ {p : Property} {Breaking : List Line → Type 0} (R : Reading p Breakin
       let next : Fits reading l.stamp (run ++ l ∷ []) (front_with p 𝓢 f l) =
       subst (Fits reading l.stamp (run ++ l ∷ [])) (same-with p 𝓢 s₀ f l) (front_fits reading t run f fit l rise.0) in
       let r = fits_on l.stamp (run ++ l ∷ []) (front_with p 𝓢 f l) next more T rise.1 low k in
-      (r.0, r.1, subst (λ (x : Run). Fits reading r.0 x (through p 𝓢 (front_with p 𝓢 f l) more)) (snoc-append run l more) r.2)
+      (r.0, r.1, subst (λ (x : Run). Fits reading r.0 x (through p 𝓢 (front_with p 𝓢 f l) more)) (snoc_append run l more) r.2)
 
   fits_through : (run : Run) (T : ℕ) → StampsFrom 0 run → All (λ (z : Line). z.stamp ≤ T) run
       → (u : ℕ) × (u ≤ T) × Fits reading u run (through p 𝓢 (single s₀) run)

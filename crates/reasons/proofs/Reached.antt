@@ -11,7 +11,7 @@ use lib.Seq.{take-length, take-append-le}
 use Rattle.meaning.specs.Words.{Property, Line, Run, StampsFrom}
 use Rattle.meaning.specs.Node.{Verdict, verdict_number, IsVerdict, Breaks}
 use Rattle.meaning.specs.Numbers.{property_refusal}
-use Rattle.meaning.proofs.Lists.{snoc-append}
+use Rattle.meaning.proofs.Lists.{snoc_append}
 use Rattle.meaning.proofs.Tests.{same_number}
 use Rattle.meaning.proofs.Pairs.{Bounds, good_bounds}
 use Rattle.meaning.proofs.Channels.{from_left}
@@ -103,11 +103,11 @@ module _ (p : Property) (good : property_refusal p ≡ 0) where
   found_on : (run more : Run) → StampsFrom 0 (run ++ more) → Found run → Found (run ++ more)
   found_on run [] rise f = subst Found (sym (append-nil run)) f
   found_on run (l ∷ more) rise f =
-      subst Found (snoc-append run l more)
+      subst Found (snoc_append run l more)
       (found_on (run ++ l ∷ []) more longer (found_next run l (from_left 0 (run ++ l ∷ []) more longer) f))
     where
       longer : StampsFrom 0 ((run ++ l ∷ []) ++ more)
-      longer = subst (StampsFrom 0) (sym (snoc-append run l more)) rise
+      longer = subst (StampsFrom 0) (sym (snoc_append run l more)) rise
 
   pub reached_exists : (run : Run) → StampsFrom 0 run → (k : ℕ) × (k ≤ length run) × ReachedAt p run k
   reached_exists run rise =

@@ -14,7 +14,7 @@ use Rattle.meaning.specs.Calls.{Answer, AnswerBy, IsAnswer}
 use Rattle.meaning.specs.Matcher.{Lengths}
 use Rattle.meaning.specs.Step.{Front, Cuts, lengths, front_with, fresh_front, front_verdict, grown, cuts_verdict}
 use Rattle.meaning.specs.History.{Event, fed, all_lines, NoMark}
-use Rattle.meaning.proofs.Lists.{from_weaker, snoc-append}
+use Rattle.meaning.proofs.Lists.{from_weaker, snoc_append}
 use Rattle.meaning.proofs.Channels.{from_right}
 use Rattle.meaning.proofs.Refusals.{unless_taken}
 use Rattle.meaning.proofs.Sets.{Reading}
@@ -45,7 +45,7 @@ module _ (p : Property) where
           by_time_each p w.clock l.stamp _ _ _ (λ (x : Watch). StampsFrom 0 (x.run ++ rest))
           (λ e far. alone)
           (λ e near. from_weaker rest alone.0 alone.1)
-          (λ e. subst (StampsFrom 0) (sym (snoc-append w.run l rest)) f)
+          (λ e. subst (StampsFrom 0) (sym (snoc_append w.run l rest)) f)
       by_number (suc n) = from_less 0 w.run l rest f
 
   mark_leaves : (w : Watch) (g : Mark) (rest : List Line) → StampsFrom 0 (w.run ++ rest) → StampsFrom 0 ((next p w (Call.mark g)).run ++ rest)
@@ -125,7 +125,7 @@ module _ (p : Property) (good : property_refusal p ≡ 0) where
   fits t run f fit [] rise = (t, f, subst (λ (r : Run). Fits R t r f) (sym (append-nil run)) fit)
   fits t run f fit (l ∷ more) rise =
       let r = fits l.stamp (run ++ l ∷ []) (front_with p (lengths p) f l) (front_fits R t run f fit l rise.0) more rise.1 in
-      (r.0, r.1, subst (λ (x : Run). Fits R r.0 x r.1) (snoc-append run l more) r.2)
+      (r.0, r.1, subst (λ (x : Run). Fits R r.0 x r.1) (snoc_append run l more) r.2)
 
   pub has-verdict : (run : Run) → StampsFrom 0 run → (v : Verdict) × IsVerdict p run v
   has-verdict run rise =
@@ -156,7 +156,7 @@ module _ (p : Property) (good : property_refusal p ≡ 0) where
       later = watched p fresh (calls ++ Call.line l ∷ more)
 
       joined : watched p fresh ((calls ++ Call.line l ∷ []) ++ more) ≡ later
-      joined = ap (watched p fresh) (snoc-append calls (Call.line l) more)
+      joined = ap (watched p fresh) (snoc_append calls (Call.line l) more)
 
       later_open : later.clock.is_blind ≡ false
       later_open = ap (λ (x : Watch). x.clock.is_blind) (sym joined) ∙ still_open p (calls ++ Call.line l ∷ []) more s

@@ -5,7 +5,7 @@ use mathlib.Core.List.{List, [], ◌∷◌, ◌++◌, append-nil}
 use native.Mathlib.Omega.{arith}
 use Rattle.meaning.specs.Words.{Property, Line, Run, StampsFrom}
 use Rattle.meaning.specs.Node.{Explanation, Some, Verdict, VerdictFor, verdict_number}
-use Rattle.meaning.proofs.Lists.{All, all_head, all_map, snoc-append}
+use Rattle.meaning.proofs.Lists.{All, all_head, all_map, snoc_append}
 use Rattle.meaning.proofs.Pairs.{Bounds}
 use Rattle.meaning.proofs.Channels.{from_cross}
 use Rattle.meaning.proofs.Facts.{explanation_exists}
@@ -22,8 +22,8 @@ module _ {p : Property} (b : Bounds p) {Breaking : List Line → Type 0} (k : En
   some_break run [] f h = subst (λ (r : Run). Some p r Breaking) (sym (append-nil run)) h
   some_break run (l ∷ more) f h =
       let q : PutIn b run l (none_later run l more f) h.order = put_in b run l (none_later run l more f) h.explains in
-      subst (λ (r : Run). Some p r Breaking) (snoc-append run l more)
-      (some_break (run ++ l ∷ []) more (subst (StampsFrom 0) (sym (snoc-append run l more)) f)
+      subst (λ (r : Run). Some p r Breaking) (snoc_append run l more)
+      (some_break (run ++ l ∷ []) more (subst (StampsFrom 0) (sym (snoc_append run l more)) f)
       (record { order = q.longer; explains = q.explains; holds = breaks_with k q.same h.holds }))
 
   -- and where all break, all of the longer run do.
@@ -31,9 +31,9 @@ module _ {p : Property} (b : Bounds p) {Breaking : List Line → Type 0} (k : En
       → (o : List Line) → Explanation p (run ++ more) o → Breaking o
   all_break run [] f h o e = h o (subst (λ (r : Run). Explanation p r o) (append-nil run) e)
   all_break run (l ∷ more) f h o e =
-      all_break (run ++ l ∷ []) more (subst (StampsFrom 0) (sym (snoc-append run l more)) f)
+      all_break (run ++ l ∷ []) more (subst (StampsFrom 0) (sym (snoc_append run l more)) f)
       (λ u x. let q : TakenOut b run l (none_later run l more f) u = taken_out b run l (none_later run l more f) x in breaks_with k q.same (h q.shorter q.explains))
-      o (subst (λ (r : Run). Explanation p r o) (sym (snoc-append run l more)) e)
+      o (subst (λ (r : Run). Explanation p r o) (sym (snoc_append run l more)) e)
 
   bounded : (run : Run) (more : List Line) → StampsFrom 0 (run ++ more)
       → (v w : Verdict) → VerdictFor Breaking p run v → VerdictFor Breaking p (run ++ more) w → verdict_number v ≤ verdict_number w

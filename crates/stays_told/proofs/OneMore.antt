@@ -7,7 +7,7 @@ use mathlib.Core.List.{List, [], ◌∷◌, ◌++◌, append-nil, head-eq_of_con
 use native.Mathlib.Omega.{arith}
 use Rattle.meaning.specs.Words.{Property, Line, Run}
 use Rattle.meaning.specs.Node.{ins, outs, Explanation}
-use Rattle.meaning.proofs.Lists.{All, done, also, all_map, all_both, all-ins, all-outs, all_channels, same_end, not_empty, snoc-append, ins-append, outs-append}
+use Rattle.meaning.proofs.Lists.{All, done, also, all_map, all_both, all-ins, all-outs, all_channels, same_end, not_empty, snoc_append, ins-append, outs-append}
 use Rattle.meaning.proofs.Pairs.{Bounds, May, Pairs, none, first, pairs_append, pairs_left}
 use Rattle.meaning.proofs.Channels.{IsIn, IsOut, In, Out, in_or_out, ins_in, outs-out, outs_skip, outs_cons, ins_skip, outs_of_in, in_in, out_in}
 use Rattle.meaning.proofs.Facts.{explains_pairs, pairs_explain}
@@ -100,7 +100,7 @@ module _ {p : Property} (b : Bounds p) (run : Run) (l : Line) (low : All (λ (z 
               inputs_kept = sym (with-ins h w) ∙ e.is_order.inputs_kept ∙ ins-last-out run l h;
               outputs_kept = (same_end (outs (q.0 ++ q.1)) (outs run) l l (sym (with-outs h w) ∙ e.is_order.outputs_kept ∙ outs-last-out run l h)).0;
             })
-            (pairs_remove p q.0 q.1 l (subst (Pairs p) (q.2 ∙ sym (snoc-append q.0 l q.1)) (explains_pairs p b e)));
+            (pairs_remove p q.0 q.1 l (subst (Pairs p) (q.2 ∙ sym (snoc_append q.0 l q.1)) (explains_pairs p b e)));
         same = w;
       }
 
@@ -149,7 +149,7 @@ module _ {p : Property} (b : Bounds p) (run : Run) (l : Line) (low : All (λ (z 
               inputs_kept = with-ins h w ∙ e.is_order.inputs_kept ∙ sym (ins-last-out run l h);
               outputs_kept = with-outs h w ∙ ap (λ (z : List Line). z ++ l ∷ []) e.is_order.outputs_kept ∙ sym (outs-last-out run l h);
             })
-            (subst (Pairs p) (snoc-append q.front l q.back)
+            (subst (Pairs p) (snoc_append q.front l q.back)
             (pairs_insert p q.front q.back l (subst (Pairs p) q.stands c) q.before (all_map (λ z k. k.1) q.after)));
         same = w;
       }

@@ -15,7 +15,7 @@ use Rattle.meaning.specs.Words
 use Rattle.meaning.specs.Numbers.{first_of, action_above}
 use Rattle.meaning.specs.Calls.{Call, Clock, fresh_clock, ticked, Watch, fresh, refusal, taken, stamp_refusal, open_at}
 use Rattle.meaning.proofs.Refusals.{first_of-none, first_of-first, none_first, given-none}
-use Rattle.meaning.proofs.Lists.{snoc-append}
+use Rattle.meaning.proofs.Lists.{snoc_append}
 use Rattle.meaning.proofs.Clocks.{blind_if, open_watch}
 use Rattle.reasons.specs.Reasons.{lines_refusal}
 
@@ -49,7 +49,7 @@ module _ (p : Words.Property) where
   unfolding taken-lines
   stays_open run [] k = (k, λ i. open_watch (sym (append-nil run) i) k)
   stays_open run (l ∷ u) k =
-      let r = stays_open (run ++ l ∷ []) u (ticked (blind_if false k) l false) in (r.0, r.1 ∙ (λ i. open_watch (snoc-append run l u i) r.0))
+      let r = stays_open (run ++ l ∷ []) u (ticked (blind_if false k) l false) in (r.0, r.1 ∙ (λ i. open_watch (snoc_append run l u i) r.0))
 
 -- ---- what is known of lines that are all taken
 
