@@ -7,7 +7,8 @@ use Rattle.record_form.proofs.Writing.{Writable, is_writable, written-refused, w
 use Rattle.record_form.proofs.write_record.Goals as goal
 
 pub returns-then-number-ne0 : goal.returns-then-number-ne0
-returns-then-number-ne0 c =     record {
+returns-then-number-ne0 c =
+    record {
       number = c.refusal-number.ensures;
       bytes = sym (written-refused _ _ _ _ _ c.refusal-number.result c.refusal-number.ensures c.if-number-ne0.true);
     }
