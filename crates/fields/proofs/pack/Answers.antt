@@ -18,7 +18,8 @@ pub byte_of-requires : goal.byte_of-requires
 byte_of-requires c = (omega arith, c.requires.2)
 
 pub loop-j-preserved : goal.loop-j-preserved
-loop-j-preserved c =     let a = c.args in
+loop-j-preserved c =
+    let a = c.args in
     let l = c.loop-j in (
       search rules,
       ap₂ (λ (x : List ℕ) (y : ℕ). set x l.j y) l.invariant.1 c.byte_of.ensures
@@ -30,7 +31,8 @@ pub shape_of-buf : goal.shape_of-buf
 shape_of-buf c = c.loop-j.invariant.2
 
 pub returns : goal.returns
-returns c =     let a = c.args in
+returns c =
+    let a = c.args in
     c.loop-j.invariant.1
     ∙ ap (λ (x : ℕ). packed (at a.list.now) x ++ drop x a.buf.now)
     (le_antisymm c.loop-j.invariant.0 c.loop-j-test.false)

@@ -13,11 +13,13 @@ use Rattle.fields.proofs.Laws.{length-bits, get_d_bits}
 use Rattle.fields.proofs.put_field.Goals as goal
 
 pub loop-j-init : goal.loop-j-init
-loop-j-init c =     let a = c.args in
+loop-j-init c =
+    let a = c.args in
     (search rules, paste-zero a.list.now a.start (bits a.width a.v), refl)
 
 pub loop-j-preserved : goal.loop-j-preserved
-loop-j-preserved c =     let a = c.args in
+loop-j-preserved c =
+    let a = c.args in
     let l = c.loop-j in
     let b = bits a.width a.v in (
       search rules,
@@ -32,6 +34,7 @@ pub shape_of-list : goal.shape_of-list
 shape_of-list c = c.loop-j.invariant.2
 
 pub returns : goal.returns
-returns c =     let a = c.args in
+returns c =
+    let a = c.args in
     c.loop-j.invariant.1
     ∙ ap (paste a.list.now a.start (bits a.width a.v)) (le_antisymm c.loop-j.invariant.0 c.loop-j-test.false)

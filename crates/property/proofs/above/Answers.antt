@@ -16,7 +16,8 @@ pub loop-i-init : goal.loop-i-init
 loop-i-init c = (search rules, λ k h. absurd (not-suc-le-zero h))
 
 pub returns-then-number-i-gt-LAST_ACTION : goal.returns-then-number-i-gt-LAST_ACTION
-returns-then-number-i-gt-LAST_ACTION c =     let p = c.args.p in
+returns-then-number-i-gt-LAST_ACTION c =
+    let p = c.args.p in
     let i = c.loop-i.i in
     sym
     (some-above (λ i. action_of (get_or p.output i false) (get_or p.number i 0)) p.n i c.loop-i-test.true
@@ -26,7 +27,8 @@ pub loop-i-preserved : goal.loop-i-preserved
 loop-i-preserved c = (search rules, below_more _ _ c.loop-i.invariant.1 c.if-number-i-gt-LAST_ACTION.false)
 
 pub returns : goal.returns
-returns c =     let p = c.args.p in
+returns c =
+    let p = c.args.p in
     sym
     (none_above (λ i. action_of (get_or p.output i false) (get_or p.number i 0)) p.n
     (λ i h.

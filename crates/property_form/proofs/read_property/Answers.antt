@@ -17,7 +17,8 @@ above : (n : ℕ) → 32 < n → length_outside n ≡ true
 above n h = simp (le-ltb n 1 (omega arith), lt-ltb 32 n h)
 
 pub returns-then-broken-ne0 : goal.returns-then-broken-ne0
-returns-then-broken-ne0 c =     let s = c.args.s.now in
+returns-then-broken-ne0 c =
+    let s = c.args.s.now in
     let r = c.broken-broken in
     let not_0 : broken_of s ≡ 0 → ⊥ = λ e. c.if-broken-ne0.true (r.ensures ∙ e) in
     read-refused s r.result c.none.result

@@ -40,7 +40,8 @@ list_bits p l e i =
     (Bits-zeros (352 - form_bits p.n)) i)
 
 pub returns-then-refusal-ne0 : goal.returns-then-refusal-ne0
-returns-then-refusal-ne0 c =     let q = meant c.args.p in
+returns-then-refusal-ne0 c =
+    let q = meant c.args.p in
     let buf = c.args.buf.now in
     let r = c.refused-refusal in
     let h : (property_refusal q ≡ 0 → ⊥) = λ e. c.if-refusal-ne0.true (r.ensures ∙ e) in (

@@ -33,7 +33,8 @@ pub overflow_add-result-4 : goal.overflow_add-result-4
 overflow_add-result-4 c = let byte = c.shared_slice_known-5-1.given in omega (arith, byte 1, byte 2, byte 3, byte 4, byte 5)
 
 pub returns : goal.returns
-returns c =     let s = c.args.s.now in
+returns c =
+    let s = c.args.s.now in
     let byte = c.shared_slice_known-5-1.given in
     omega (
       arith,

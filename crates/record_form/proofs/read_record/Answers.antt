@@ -11,5 +11,6 @@ pub record_of-requires : goal.record_of-requires
 record_of-requires c = is_field_lt _ _ 2 c.kind_field.ensures
 
 pub returns : goal.returns
-returns c =     read_fields _ _ _ _ _ _ (omega arith) c.kind_field.ensures
+returns c =
+    read_fields _ _ _ _ _ _ (omega arith) c.kind_field.ensures
     c.action_field.ensures c.stamp_field.ensures c.record_of.ensures

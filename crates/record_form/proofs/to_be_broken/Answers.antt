@@ -1,28 +1,24 @@
 -- `record_form::to_be_broken` meets its contract.
-use Prim.Native.Nat.{ℕ, ◌<◌}
-use mathlib.Core.Path.{◌≡◌, refl, sym, ◌∙◌, ap₂}
+use mathlib.Core.Path.{refl, sym, ◌∙◌, ap₂}
 use mathlib.Core.Bool.{◌||◌}
 use native.Mathlib.Omega.{arith}
 use Rattle.record_form.proofs.Rules.{broken-none, broken-end, broken-kind, is_0, not_0}
 use Rattle.record_form.proofs.to_be_broken.Goals as goal
 
-above : {kind : ℕ} → (kind ≡ 0 → ⊥) → (kind ≡ 1 → ⊥) → (kind ≡ 2 → ⊥) → (kind ≡ 3 → ⊥) → 3 < kind
-above a b d e = omega arith
-
 pub returns-then-action-ne0 : goal.returns-then-action-ne0
-returns-then-action-ne0 c = sym (broken-end _ _ _ c.in-0.keys4 ∙ ap₂ ◌||◌ (not_0 _ c.if-action-ne0.true) refl)
+returns-then-action-ne0 c = sym (broken-end _ _ _ c.in-3.is ∙ ap₂ ◌||◌ (not_0 _ c.if-action-ne0.true) refl)
 
 pub returns-in-0 : goal.returns-in-0
-returns-in-0 c = sym (broken-none _ _ _ (omega (arith, c.in-0.keys1)))
+returns-in-0 c = sym (broken-none _ _ _ (omega arith))
 
 pub returns-in-1 : goal.returns-in-1
-returns-in-1 c = sym (broken-none _ _ _ (omega (arith, c.in-0.keys2)))
+returns-in-1 c = sym (broken-none _ _ _ (omega arith))
 
 pub returns-in-2 : goal.returns-in-2
-returns-in-2 c = sym (broken-none _ _ _ (omega (arith, c.in-0.keys3)))
+returns-in-2 c = sym (broken-none _ _ _ (omega arith))
 
 pub returns-else-action-ne0 : goal.returns-else-action-ne0
-returns-else-action-ne0 c = sym (broken-end _ _ _ c.in-0.keys4 ∙ ap₂ ◌||◌ (is_0 _ c.if-action-ne0.false) refl)
+returns-else-action-ne0 c = sym (broken-end _ _ _ c.in-3.is ∙ ap₂ ◌||◌ (is_0 _ c.if-action-ne0.false) refl)
 
 pub returns-in_default : goal.returns-in_default
-returns-in_default c = sym (broken-kind _ _ _ (above c.in-0.rest.0.0.0.1 c.in-0.rest.0.0.1 c.in-0.rest.0.1 c.in-0.rest.1))
+returns-in_default c = sym (broken-kind _ _ _ (omega arith))

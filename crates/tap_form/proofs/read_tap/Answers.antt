@@ -11,5 +11,6 @@ pub tap_of-requires : goal.tap_of-requires
 tap_of-requires c = is_field_lt _ _ 2 c.kind_field.ensures
 
 pub returns : goal.returns
-returns c =     tap_read_fields _ _ _ _ _ _ (omega arith) c.kind_field.ensures
+returns c =
+    tap_read_fields _ _ _ _ _ _ (omega arith) c.kind_field.ensures
     c.action_field.ensures c.counter_field.ensures c.tap_of.ensures

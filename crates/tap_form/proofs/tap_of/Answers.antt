@@ -1,18 +1,21 @@
 -- `tap_form::tap_of` meets its contract: a gap with the number that it counts as, an end by its counter, what is none by the wrapped difference.
-use Rattle.std.proofs.Common.{sym, ap, ◌∙◌}
+use Rattle.std.proofs.Common.{sym, ap, ◌∙◌, arith}
 use Rattle.record_form.specs.Record.{case_of, case_by}
 use Rattle.tap_form.proofs.Reading.{gap-refused, gap_as_record, end_as_record, line_as_record}
 use Rattle.tap_form.proofs.tap_of.Goals as goal
 
 pub returns-then-action-ne0 : goal.returns-then-action-ne0
 unfolding case_by
-returns-then-action-ne0 c = sym (ap case_of (gap-refused _ _ _ _ c.in-2.keys1 c.if-action-ne0.true))
+returns-then-action-ne0 c = sym (ap case_of (gap-refused _ _ _ _ c.in-2.is c.if-action-ne0.true))
 
 pub returns-else-action-ne0 : goal.returns-else-action-ne0
-returns-else-action-ne0 c =     c.record_of.ensures ∙ ap case_of (gap_as_record _ _ _ _ _ c.requires c.in-2.keys1 c.if-action-ne0.false c.time_since.ensures)
+returns-else-action-ne0 c =
+    c.record_of.ensures ∙ ap case_of (gap_as_record _ _ _ _ _ c.requires c.in-2.is c.if-action-ne0.false c.time_since.ensures)
 
 pub returns-in-3 : goal.returns-in-3
-returns-in-3 c = c.record_of-in-3.ensures ∙ ap case_of (end_as_record _ _ _ _ c.requires c.in-2.keys2)
+returns-in-3 c = c.record_of-in-3.ensures ∙ ap case_of (end_as_record _ _ _ _ c.requires c.in-3.is)
 
 pub returns-in_default : goal.returns-in_default
-returns-in_default c =     c.record_of-in_default.ensures ∙ ap case_of (line_as_record _ _ _ _ _ c.requires c.in-2.rest.0.1 c.in-2.rest.1 c.time_since-in_default.ensures)
+returns-in_default c =
+    c.record_of-in_default.ensures
+    ∙ ap case_of (line_as_record _ _ _ _ _ c.requires (omega arith) (omega arith) c.time_since-in_default.ensures)

@@ -21,13 +21,15 @@ unfolding mask
 loop-k-init c = (search rules, refl)
 
 pub overflow_add-m : goal.overflow_add-m
-overflow_add-m c =     let a = c.args in
+overflow_add-m c =
+    let a = c.args in
     let k = c.loop-k.k in
     omega
     (arith, shift a.s.now c.field_at.result a.start k (omega arith) c.field_at.ensures, mask_fits (bit a.s.now) (bit-lt a.s.now) a.start k 64 (omega arith))
 
 pub loop-k-preserved : goal.loop-k-preserved
-loop-k-preserved c =     let a = c.args in
+loop-k-preserved c =
+    let a = c.args in
     let l = c.loop-k in (
       search rules,
       ap₂ (λ (x y : ℕ). x + y) l.invariant.1 (shift a.s.now c.field_at.result a.start l.k (omega arith) c.field_at.ensures)
@@ -35,5 +37,6 @@ loop-k-preserved c =     let a = c.args in
     )
 
 pub returns : goal.returns
-returns c =     let a = c.args in
+returns c =
+    let a = c.args in
     c.loop-k.invariant.1 ∙ ap (λ (k : ℕ). mask (bit a.s.now) a.start k) (le_antisymm c.loop-k.invariant.0 c.loop-k-test.false)

@@ -24,11 +24,13 @@ judged : (s : List ℕ) (short broken : Bool) → too_short s ≡ short → pad_
 judged s short broken es eb = sym (ap₂ (λ (x y : Bool). first_of (given 7 x) (given 8 y)) es eb)
 
 pub returns-then-s-lt1 : goal.returns-then-s-lt1
-returns-then-s-lt1 c =     let s = c.args.s.now in
+returns-then-s-lt1 c =
+    let s = c.args.s.now in
     judged s true (pad_broken s) (lt-ltb (length s) (form_size (length_read s)) (omega arith)) refl
 
 pub returns-then-s-size : goal.returns-then-s-size
-returns-then-s-size c =     let s = c.args.s.now in
+returns-then-s-size c =
+    let s = c.args.s.now in
     judged s true (pad_broken s) (lt-ltb (length s) (form_size (length_read s)) (omega arith)) refl
 
 pub returns-then-field_at-eq0 : goal.returns-then-field_at-eq0

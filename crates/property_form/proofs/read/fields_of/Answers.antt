@@ -25,5 +25,6 @@ fields s n e output number allowed lb ub eo en ea el eu =
 
 pub returns : goal.returns
 unfolding property_read
-returns c =     fields c.args.s.now c.args.n c.requires.0 _ _ _ _ _ c.outputs-output.ensures c.numbers-number.ensures
+returns c =
+    fields c.args.s.now c.args.n c.requires.0 _ _ _ _ _ c.outputs-output.ensures c.numbers-number.ensures
     c.allowed.ensures c.field_at.ensures c.field_at-2.ensures

@@ -18,12 +18,14 @@ unfolding first
 loop-i-init c = (search rules, refl)
 
 pub narrow-requires : goal.narrow-requires
-narrow-requires c =     let s = c.args.s.now in
+narrow-requires c =
+    let s = c.args.s.now in
     let i = c.loop-i.i in
     omega (arith, number_lt (bit s) (bit-lt s) (59 + 7 * i) 6, c.field_at.ensures)
 
 pub loop-i-preserved : goal.loop-i-preserved
-loop-i-preserved c =     let s = c.args.s.now in
+loop-i-preserved c =
+    let s = c.args.s.now in
     let l = c.loop-i in (
       search rules,
       ap₂ (λ (x : List ℕ) (y : ℕ). set x l.i y) l.invariant.1 (c.narrow.ensures ∙ c.field_at.ensures)
@@ -31,5 +33,6 @@ loop-i-preserved c =     let s = c.args.s.now in
     )
 
 pub returns : goal.returns
-returns c =     let a = c.args in
+returns c =
+    let a = c.args in
     c.loop-i.invariant.1 ∙ ap (λ (k : ℕ). places (number_read a.s.now) k 0) (le_antisymm c.loop-i.invariant.0 c.loop-i-test.false)

@@ -18,7 +18,8 @@ unfolding first
 loop-i-init c = (search rules, refl)
 
 pub loop-i-preserved : goal.loop-i-preserved
-loop-i-preserved c =     let s = c.args.s.now in
+loop-i-preserved c =
+    let s = c.args.s.now in
     let l = c.loop-i in (
       search rules,
       ap₂ (λ (x : List Bool) (y : ℕ). set x l.i (eqb y 1)) l.invariant.1 c.field_at.ensures
@@ -26,5 +27,6 @@ loop-i-preserved c =     let s = c.args.s.now in
     )
 
 pub returns : goal.returns
-returns c =     let a = c.args in
+returns c =
+    let a = c.args in
     c.loop-i.invariant.1 ∙ ap (λ (k : ℕ). places (output_read a.s.now) k false) (le_antisymm c.loop-i.invariant.0 c.loop-i-test.false)

@@ -19,19 +19,21 @@ unfolding first sequence_bits
 loop-i-init c = (search rules, paste-zero c.args.list.now 58 [], refl)
 
 pub loop-i-preserved : goal.loop-i-preserved
-loop-i-preserved c =     let l = c.loop-i in
+loop-i-preserved c =
+    let l = c.loop-i in
     let a = c.args in (
-      omega (arith, c),
-      action_put a.list.now c.put_field.new.list c.put_field-in-loop-i.new.list l.list (λ j. get_or a.t2 j false) (λ j. get_or a.t3 j 0)
-          l.i c.one_if.result c.wide.result (omega (arith, c)) l.invariant.1
+      omega arith,
+      action_put a.list.now c.put_field.new.list c.put_field-in-loop-i.new.list l.list (λ j. get_or a.output j false) (λ j. get_or a.number j 0)
+          l.i c.one_if.result c.wide.result (omega arith) l.invariant.1
           c.one_if.ensures c.wide.ensures.0 c.put_field.ensures c.put_field-in-loop-i.ensures,
-      c.put_field-in-loop-i.auto.0 ∙ c.put_field.auto.0 ∙ l.invariant.2,
+      c.put_field-in-loop-i.auto.list ∙ c.put_field.auto.list ∙ l.invariant.2,
     )
 
 pub shape_of-list : goal.shape_of-list
 shape_of-list c = c.loop-i.invariant.2
 
 pub returns : goal.returns
-returns c =     let a = c.args in
+returns c =
+    let a = c.args in
     c.loop-i.invariant.1
-    ∙ ap (put_first a.list.now a.t2 a.t3) (le_antisymm c.loop-i.invariant.0 c.loop-i-test.false)
+    ∙ ap (put_first a.list.now a.output a.number) (le_antisymm c.loop-i.invariant.0 c.loop-i-test.false)

@@ -13,11 +13,13 @@ use Rattle.fields.proofs.Laws.{length_run, getD_run}
 use Rattle.property_form.proofs.write.put_allowed.Goals as goal
 
 pub loop-k-init : goal.loop-k-init
-loop-k-init c =     let a = c.args in
+loop-k-init c =
+    let a = c.args in
     (search rules, paste-zero a.list.now a.start (run (digit a.m) 0 64), refl)
 
 pub loop-k-preserved : goal.loop-k-preserved
-loop-k-preserved c =     let a = c.args in
+loop-k-preserved c =
+    let a = c.args in
     let l = c.loop-k in
     let b = run (digit a.m) 0 64 in (
       search rules,
@@ -34,6 +36,7 @@ pub shape_of-list : goal.shape_of-list
 shape_of-list c = c.loop-k.invariant.2
 
 pub returns : goal.returns
-returns c =     let a = c.args in
+returns c =
+    let a = c.args in
     c.loop-k.invariant.1
     ∙ ap (paste a.list.now a.start (run (digit a.m) 0 64)) (le_antisymm c.loop-k.invariant.0 c.loop-k-test.false)
