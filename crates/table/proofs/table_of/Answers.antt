@@ -12,7 +12,7 @@ use Rattle.table.proofs.table_of.Goals as goal
 
 pub loop-i-init : goal.loop-i-init
 loop-i-init c =     let a = c.args in
-    let pre = c.requires.0 in
+    let pre = c.requires.n_bound in
     (omega arith, making_none a.outputs.now a.numbers.now a.n pre.0 a.table.now pre.1 pre.2)
 
 pub bounds-table-at : goal.bounds-table-at
@@ -23,12 +23,12 @@ bounds-table-at c =
     omega (arith, at-le)
 
 pub fill_row-requires : goal.fill_row-requires
-fill_row-requires c =     ((omega arith, c.loop-i.invariant.1.long), c.shorter-falls.ensures)
+fill_row-requires c =     record { n_bound = (omega arith, c.loop-i.invariant.1.long); by_index = c.shorter-falls.ensures }
 
 pub loop-i-preserved : goal.loop-i-preserved
 loop-i-preserved c = 
     let named : c.loop-i.i < c.args.n → get_or c.args.numbers.now c.loop-i.i 0 ≤ 63 =
-        λ h. c.requires.1 c.loop-i.i h in
+        λ h. c.requires.by_index c.loop-i.i h in
     let a = c.args in
     let w = c.loop-i in (
       search rules,
@@ -49,9 +49,3 @@ returns c =     let a = c.args in
     let w = c.loop-i in
     made a.outputs.now a.numbers.now a.n w.i w.table c.loop-i-test.false w.invariant.1
 
--- TODO -- no new name for overflow-cast-row
--- TODO cast-row : tie.Need-overflow-cast-row invariant-loop decreases-loop
--- TODO cast-row c = record { fits = omega (arith, named (turn c) (omega arith)) }
--- TODO -- no new name for overflow-add-if1
--- TODO add-if1 : tie.Need-overflow-add-if1 invariant-loop decreases-loop
--- TODO add-if1 c = record { fits = omega (arith, at-le c) }
