@@ -2,9 +2,7 @@
 use Prim.Native.Nat.{◌+◌, ◌*◌}
 use mathlib.Core.Path.{sym, ap, ap₂, ◌∙◌}
 use mathlib.Core.Bool.{Bool, true, false, cond}
-use native.Mathlib.Omega.{arith}
 use borrow.Author.Tests.{le-leb, lt-leb}
-use Rattle.property.proofs.Refusal.{taken_bounds}
 use Rattle.meaning.specs.Matcher.{moved, either, none_of}
 use Rattle.property.specs.Meant.{meant}
 use Rattle.matcher.specs.Sets.{set_of}
@@ -35,14 +33,3 @@ returns c =     let a = c.args in
           (sym (lt-leb (a.held + 2 * a.p.lb) a.stamp c.if-held-p.false));
       fits = c.moved-behind.ensures.fits;
     }
-
--- TODO -- no new name for overflow-mul-if1
--- TODO mul-if1 : tie.Need-overflow-mul-if1
--- TODO mul-if1 c =
--- TODO     let bounds = taken_bounds c.before.before.args.p c.before.before.requires.0 in
--- TODO     record { fits = omega (arith, bounds.order, bounds.high) }
--- TODO -- no new name for overflow-add-if1
--- TODO add-if1 : tie.Need-overflow-add-if1
--- TODO add-if1 c =
--- TODO     let bounds = taken_bounds c.before.before.args.p c.before.before.requires.0 in
--- TODO     record { fits = omega (arith, bounds.order, bounds.high, c.before.before.requires.2) }

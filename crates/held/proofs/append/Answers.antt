@@ -10,7 +10,7 @@ use Rattle.held.proofs.append.Goals as goal
 pub put-requires-2 : goal.put-requires-2
 put-requires-2 c =     let s = c.args.span in
     let first = c.put in
-    let one : Room first.new.0 s =
+    let one : Room first.new.rows s =
     subst (λ (r : List (List ℕ)). Room r s) (sym first.ensures)
     (room-with c.args.rows.now s 0 s.count c.args.stamp c.requires (omega (arith, c.requires.shared)) c.requires.within.few) in
     (one, one.shared, c.requires.within.few)

@@ -23,6 +23,3 @@ pub returns : goal.returns
 returns c =     let w = c.loop-i in
     record { within = w.invariant.0; closed = w.invariant.1; next = λ h. let z : ⊥ = omega arith in absurd z }
 
--- TODO -- no new name for overflow-add-if1
--- TODO add-if1 : tie.Need-overflow-add-if1 invariant-loop decreases-loop
--- TODO add-if1 c = record { fits = omega (arith, c.word.ensures, (entry c).requires.2 (turn c).loop.i (omega arith)) }

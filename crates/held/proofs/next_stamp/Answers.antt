@@ -10,7 +10,7 @@ use Rattle.held.proofs.next_stamp.Goals as goal
 
 pub returns-then-j-span : goal.returns-then-j-span
 returns-then-j-span c =     c.word.ensures ∙ ap (word c.args.rows.now c.args.span 0) (add-one c.args.i)
-    ∙ ap (λ (c : Bool). cond c (word c.args.rows.now c.args.span 0 (suc c.args.i)) c.args.latest) (sym (lt-ltb (suc c.args.i) c.args.span.count (omega arith)))
+    ∙ ap (λ (b : Bool). cond b (word c.args.rows.now c.args.span 0 (suc c.args.i)) c.args.latest) (sym (lt-ltb (suc c.args.i) c.args.span.count (omega arith)))
 
 pub returns : goal.returns
 returns c = simp (le-ltb (suc c.args.i) c.args.span.count (omega arith))

@@ -6,17 +6,15 @@ use lib.Dec.{ltb}
 use lib.Pow.{pow_pos}
 use Rattle.property.proofs.Refusal.{taken_bounds}
 use Rattle.matcher.proofs.Words.{fits_parts, armed-lt, with-lt}
-use Rattle.matcher.proofs.Moving.{StepAsks, step_asks, input_moves, allowed_moves, outside_moves}
+use Rattle.matcher.proofs.Moving.{step_asks, input_moves, allowed_moves, outside_moves}
 use Rattle.matcher.proofs.moved.Goals as goal
 
 pub step-free-requires : goal.step-free-requires
-step-free-requires c = 
-    let mask_low : c.args.cut.mask < 2 ^ suc c.args.p.n =
-        (fits_parts c.args.p c.args.cut c.requires.2).0 in
-    let asks : (m : ℕ) → m < 2 ^ suc c.args.p.n → StepAsks c.args.p c.args.table.now c.row-at.result m =
-        λ m low. let a = c.args in
-    step_asks a.p c.requires.0 a.table.now c.requires.1 a.output a.action c.row-at.result c.row-at.ensures m low in
-    asks _ mask_low
+step-free-requires c =
+    let a = c.args in
+    let asks =
+        step_asks a.p c.requires.0 a.table.now c.requires.1 a.output a.action c.row-at.result c.row-at.ensures a.cut.mask (fits_parts a.p a.cut c.requires.2).0 in
+    record { n_bound = asks.0; by_index = asks.1 }
 
 pub arranged-requires : goal.arranged-requires
 arranged-requires c = 
@@ -33,16 +31,12 @@ returns-then-outside c =     let a = c.args in
     c.with_broken.ensures c.step-free.ensures.0 c.arranged.ensures
 
 pub step-free-requires-then-output : goal.step-free-requires-then-output
-step-free-requires-then-output c = 
-    let mask_low : c.args.cut.mask < 2 ^ suc c.args.p.n =
-        (fits_parts c.args.p c.args.cut c.requires.2).0 in
-    let armed-low : c.args.cut.armed / 2 < 2 ^ suc c.args.p.n =
-        let a = c.args in
-    armed-lt a.p.n a.cut.armed (fits_parts a.p a.cut c.requires.2).1 in
-    let asks : (m : ℕ) → m < 2 ^ suc c.args.p.n → StepAsks c.args.p c.args.table.now c.row-at.result m =
-        λ m low. let a = c.args in
-    step_asks a.p c.requires.0 a.table.now c.requires.1 a.output a.action c.row-at.result c.row-at.ensures m low in
-    asks _ (c.both.ensures.1 (suc c.args.p.n) mask_low armed-low)
+step-free-requires-then-output c =
+    let a = c.args in
+    let armed-low = armed-lt a.p.n a.cut.armed (fits_parts a.p a.cut c.requires.2).1 in
+    let asks =
+        step_asks a.p c.requires.0 a.table.now c.requires.1 a.output a.action c.row-at.result c.row-at.ensures c.both.result (c.both.ensures.1 (suc a.p.n) (fits_parts a.p a.cut c.requires.2).0 armed-low) in
+    record { n_bound = asks.0; by_index = asks.1 }
 
 -- Here and below the bound is shown for 0 and for the armed lengths alike, so that what must fail does so by the set in `returns`.
 pub arranged-requires-then-output : goal.arranged-requires-then-output
@@ -62,23 +56,19 @@ returns-then-output c =     let a = c.args in
     c.both.ensures.0 c.step-free-then-output.ensures.0 c.arranged-then-output.ensures
 
 pub step-free-requires-2 : goal.step-free-requires-2
-step-free-requires-2 c = 
-    let mask_low : c.args.cut.mask < 2 ^ suc c.args.p.n =
-        (fits_parts c.args.p c.args.cut c.requires.2).0 in
-    let asks : (m : ℕ) → m < 2 ^ suc c.args.p.n → StepAsks c.args.p c.args.table.now c.row-at.result m =
-        λ m low. let a = c.args in
-    step_asks a.p c.requires.0 a.table.now c.requires.1 a.output a.action c.row-at.result c.row-at.ensures m low in
-    asks _ mask_low
+step-free-requires-2 c =
+    let a = c.args in
+    let asks =
+        step_asks a.p c.requires.0 a.table.now c.requires.1 a.output a.action c.row-at.result c.row-at.ensures a.cut.mask (fits_parts a.p a.cut c.requires.2).0 in
+    record { n_bound = asks.0; by_index = asks.1 }
 
 pub step-still-requires : goal.step-still-requires
-step-still-requires c = 
-    let armed-low : c.args.cut.armed / 2 < 2 ^ suc c.args.p.n =
-        let a = c.args in
-    armed-lt a.p.n a.cut.armed (fits_parts a.p a.cut c.requires.2).1 in
-    let asks : (m : ℕ) → m < 2 ^ suc c.args.p.n → StepAsks c.args.p c.args.table.now c.row-at.result m =
-        λ m low. let a = c.args in
-    step_asks a.p c.requires.0 a.table.now c.requires.1 a.output a.action c.row-at.result c.row-at.ensures m low in
-    asks _ (omega (arith, armed-low, pow_pos (suc c.args.p.n)))
+step-still-requires c =
+    let a = c.args in
+    let armed-low = armed-lt a.p.n a.cut.armed (fits_parts a.p a.cut c.requires.2).1 in
+    let asks =
+        step_asks a.p c.requires.0 a.table.now c.requires.1 a.output a.action c.row-at.result c.row-at.ensures _ (omega (arith, armed-low, pow_pos (suc a.p.n))) in
+    record { n_bound = asks.0; by_index = asks.1 }
 
 pub arranged-requires-2 : goal.arranged-requires-2
 arranged-requires-2 c = 

@@ -49,7 +49,7 @@ overflow_cast-r c =
     let lowest-in-set : lowest ≤ c.args.n =
         lowest_le c.args.n c.loop-rest.rest (omega arith) (omega arith) (omega arith) in
     let goes-low : get_or c.args.table.now (c.args.at + lowest) 0 ≤ c.args.n =
-        c.requires.1 lowest lowest-in-set in
+        c.requires.by_index lowest lowest-in-set in
     record { fits = omega (arith, goes-low) }
 
 pub overflow_shl-r : goal.overflow_shl-r
@@ -59,7 +59,7 @@ overflow_shl-r c =
     let lowest-in-set : lowest ≤ c.args.n =
         lowest_le c.args.n c.loop-rest.rest (omega arith) (omega arith) (omega arith) in
     let goes-low : get_or c.args.table.now (c.args.at + lowest) 0 ≤ c.args.n =
-        c.requires.1 lowest lowest-in-set in
+        c.requires.by_index lowest lowest-in-set in
     omega (arith, goes-low)
 
 pub loop-rest-smaller : goal.loop-rest-smaller
@@ -72,7 +72,7 @@ loop-rest-preserved c =
     let lowest-in-set : lowest ≤ c.args.n =
         lowest_le c.args.n c.loop-rest.rest (omega arith) (omega arith) (omega arith) in
     let goes-low : get_or c.args.table.now (c.args.at + lowest) 0 ≤ c.args.n =
-        c.requires.1 lowest lowest-in-set in
+        c.requires.by_index lowest lowest-in-set in
     let a = c.args in
     let w = c.loop-rest in
     let f : ℕ → ℕ = λ k. get_or a.table.now (a.at + k) 0 in

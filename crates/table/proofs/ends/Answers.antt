@@ -1,6 +1,7 @@
 -- `table::ends` meets its contract. The loop compares from the end: what is left to compare decides the answer.
 use borrow.Author.Rules.{rules}
-use mathlib.Core.Path.{sym, ◌∙◌}
+use mathlib.Core.Path.{sym, ap, ◌∙◌}
+use mathlib.Core.Bool.{not}
 use Rattle.table.proofs.Recursion.{ends_mismatch, ends_match, ends-none}
 use Rattle.table.specs.Table.{action_at}
 use Rattle.table.proofs.ends.Goals as goal
@@ -9,7 +10,7 @@ pub returns-then-not-same : goal.returns-then-not-same
 returns-then-not-same c =     let s = c.same in
     let a = c.args in
     let w = c.loop-i in
-    ends_mismatch (action_at a.outputs.now a.numbers.now) w.i w.l (search rules) w.invariant.0 s.result s.ensures c.if-not-same.true
+    ends_mismatch (action_at a.outputs.now a.numbers.now) w.i w.l (search rules) w.invariant.0 s.result s.ensures (ap not c.if-not-same.true)
     ∙ sym w.invariant.2
 
 pub loop-i-preserved : goal.loop-i-preserved
@@ -19,7 +20,7 @@ loop-i-preserved c =     let s = c.same in
       search rules,
       search rules,
       w.invariant.2
-          ∙ ends_match (action_at a.outputs.now a.numbers.now) w.i w.l (search rules) w.invariant.0 s.result s.ensures c.if-not-same.false,
+          ∙ ends_match (action_at a.outputs.now a.numbers.now) w.i w.l (search rules) w.invariant.0 s.result s.ensures (ap not c.if-not-same.false),
     )
 
 pub returns : goal.returns

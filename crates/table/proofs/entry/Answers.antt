@@ -24,7 +24,7 @@ overflow_cast-f c =
     let fall : ℕ =
         get_or c.args.falls.now c.args.k 0 in
     let fall-shorter : Shorter (action_at c.args.outputs.now c.args.numbers.now) c.args.k fall =
-        c.requires.1.0 c.args.k (omega arith) (omega arith) in
+        c.requires.by_index c.args.k (omega arith) (omega arith) in
     record { fits = omega (arith, fall-shorter.less) }
 
 pub overflow_add-result-2 : goal.overflow_add-result-2
@@ -32,7 +32,7 @@ overflow_add-result-2 c =
     let fall : ℕ =
         get_or c.args.falls.now c.args.k 0 in
     let fall-shorter : Shorter (action_at c.args.outputs.now c.args.numbers.now) c.args.k fall =
-        c.requires.1.0 c.args.k (omega arith) (omega arith) in
+        c.requires.by_index c.args.k (omega arith) (omega arith) in
     record { fits = omega (arith, fall-shorter.less) }
 
 pub bounds-table-at : goal.bounds-table-at
@@ -40,7 +40,7 @@ bounds-table-at c =
     let fall : ℕ =
         get_or c.args.falls.now c.args.k 0 in
     let fall-shorter : Shorter (action_at c.args.outputs.now c.args.numbers.now) c.args.k fall =
-        c.requires.1.0 c.args.k (omega arith) (omega arith) in
+        c.requires.by_index c.args.k (omega arith) (omega arith) in
     omega (arith, fall-shorter.less)
 
 pub returns : goal.returns
@@ -48,8 +48,8 @@ returns c =
     let fall : ℕ =
         get_or c.args.falls.now c.args.k 0 in
     let fall-shorter : Shorter (action_at c.args.outputs.now c.args.numbers.now) c.args.k fall =
-        c.requires.1.0 c.args.k (omega arith) (omega arith) in
+        c.requires.by_index c.args.k (omega arith) (omega arith) in
     let a = c.args in
-    c.requires.1.1 fall fall-shorter.less
+    c.requires.by_index_2 fall fall-shorter.less
     ∙ entry-shorter (action_at a.outputs.now a.numbers.now) a.n (action_of a.output a.action) a.k fall
     (sym c.next_is.ensures ∙ c.if-next_is.false) c.if-k-eq0.false fall-shorter

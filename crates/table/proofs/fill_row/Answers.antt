@@ -33,10 +33,11 @@ entry-next-requires c =
     (action_of c.args.output c.args.action) k =
         λ k. let a = c.args in
     row_entry-at (action_at a.outputs.now a.numbers.now) a.n a.output a.action c.row-at.result k c.row-at.ensures in
-    let at = c.row-at.result in (
-      (omega arith, omega arith, at-le),
-      (c.requires.1, λ j h. c.loop-k.invariant.1.inside (at + j) (omega arith) (omega arith) ∙ entry_at j),
-    )
+    let at = c.row-at.result in record {
+      n_bound = (omega arith, omega arith, at-le);
+      by_index = c.requires.by_index;
+      by_index_2 = (λ j h. c.loop-k.invariant.1.inside (at + j) (omega arith) (omega arith) ∙ entry_at j);
+    }
 
 pub overflow_add-table : goal.overflow_add-table
 overflow_add-table c = 

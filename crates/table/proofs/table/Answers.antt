@@ -7,7 +7,7 @@ use Rattle.table.proofs.table.Goals as goal
 
 pub table_of-requires : goal.table_of-requires
 table_of-requires c =     let p = c.args.p in
-    (((taken_bounds p c.requires).most, refl, getD_repeat 0 4257), taken-number p c.requires)
+    record { n_bound = ((taken_bounds p c.requires).most, refl, getD_repeat 0 4257); by_index = taken-number p c.requires }
 
 pub returns : goal.returns
 returns c = is_table c.args.p c.table_of.new.table c.table_of.ensures

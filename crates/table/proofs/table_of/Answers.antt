@@ -3,16 +3,16 @@ use borrow.Author.Rules.{rules}
 use Prim.Native.Nat.{ℕ, ◌+◌, ◌-◌, ◌≤◌, ◌<◌}
 use mathlib.Core.Path.{◌≡◌, sym, subst}
 use mathlib.Core.List.{List}
-use mathlib.Core.Logic.{⊎_elim}
 use mathlib.Core.Bool.{false}
 use native.Mathlib.Omega.{arith}
 use lib.ListN.{get_or}
 use Rattle.table.proofs.TableRows.{row_le, Making, making_none, making_filled, making_left, made}
 use Rattle.table.proofs.table_of.Goals as goal
+use Rattle.table.proofs.table_of.Goals.{then-table-at-eq0, else-table-at-eq0}
 
 pub loop-i-init : goal.loop-i-init
 loop-i-init c =     let a = c.args in
-    let pre = c.requires.0 in
+    let pre = c.requires.n_bound in
     (omega arith, making_none a.outputs.now a.numbers.now a.n pre.0 a.table.now pre.1 pre.2)
 
 pub bounds-table-at : goal.bounds-table-at
@@ -23,35 +23,28 @@ bounds-table-at c =
     omega (arith, at-le)
 
 pub fill_row-requires : goal.fill_row-requires
-fill_row-requires c =     ((omega arith, c.loop-i.invariant.1.long), c.shorter-falls.ensures)
+fill_row-requires c =     record { n_bound = (omega arith, c.loop-i.invariant.1.long); by_index = c.shorter-falls.ensures }
 
 pub loop-i-preserved : goal.loop-i-preserved
-loop-i-preserved c = 
+loop-i-preserved c =
     let named : c.loop-i.i < c.args.n → get_or c.args.numbers.now c.loop-i.i 0 ≤ 63 =
-        λ h. c.requires.1 c.loop-i.i h in
+        λ h. c.requires.by_index c.loop-i.i h in
     let a = c.args in
     let w = c.loop-i in (
       search rules,
-      ⊎_elim
-          (λ d.
-          subst (λ (t : List ℕ). Making a.outputs.now a.numbers.now a.n (w.i + 1) t) (sym d.4)
-          (making_filled a.outputs.now a.numbers.now a.n (omega arith) w.i w.table d.3.last.1.1.1.1.1.1.0 w.invariant.1
-          (named (omega arith)) d.3.ensures))
-          (λ d.
-          subst (λ (t : List ℕ). Making a.outputs.now a.numbers.now a.n (w.i + 1) t) (sym d.1)
-          (making_left a.outputs.now a.numbers.now a.n (omega arith) w.i w.table w.invariant.1 (omega arith)
-          (subst (λ (x : ℕ). get_or w.table (x + w.i) 0 ≡ 0 → ⊥) c.row-at.ensures d.0.false)))
-          c.if-table-at-eq0.branch,
+      elim c.if-table-at-eq0.branch [
+        then-table-at-eq0 d ↦
+            subst (λ (t : List ℕ). Making a.outputs.now a.numbers.now a.n (w.i + 1) t) (sym d.table-is)
+            (making_filled a.outputs.now a.numbers.now a.n (omega arith) w.i w.table d.fill_row.new.table w.invariant.1
+            (named (omega arith)) d.fill_row.ensures)
+        | else-table-at-eq0 d ↦
+            subst (λ (t : List ℕ). Making a.outputs.now a.numbers.now a.n (w.i + 1) t) (sym d.table-is)
+            (making_left a.outputs.now a.numbers.now a.n (omega arith) w.i w.table w.invariant.1 (omega arith)
+            (subst (λ (x : ℕ). get_or w.table (x + w.i) 0 ≡ 0 → ⊥) c.row-at.ensures d.if-table-at-eq0.false))
+      ],
     )
 
 pub returns : goal.returns
 returns c =     let a = c.args in
     let w = c.loop-i in
     made a.outputs.now a.numbers.now a.n w.i w.table c.loop-i-test.false w.invariant.1
-
--- TODO -- no new name for overflow-cast-row
--- TODO cast-row : tie.Need-overflow-cast-row invariant-loop decreases-loop
--- TODO cast-row c = record { fits = omega (arith, named (turn c) (omega arith)) }
--- TODO -- no new name for overflow-add-if1
--- TODO add-if1 : tie.Need-overflow-add-if1 invariant-loop decreases-loop
--- TODO add-if1 c = record { fits = omega (arith, at-le c) }
