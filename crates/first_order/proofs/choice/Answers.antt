@@ -68,12 +68,3 @@ returns c =
     not_reached c.args.p run c.args.breaking c.args.from c.next-x.result c.next-y.result c.next-x.ensures.0 c.next-y.ensures.0 c.requires.2.sized.output_long
     (lt-leb _ _ c.if-stamp-y.false) (lt-leb _ _ c.if-stamp-x.false) (le-ltb _ _ c.if-stamp-x-2.false)
     (sym asked ∙ c.if-reaches.false)
-
--- TODO -- no new name for overflow-mul-if3-2
--- TODO mul-if3-2 : tie.Need-overflow-mul-if3-2
--- TODO mul-if3-2 c = let b = start c.before.before.before.before in omega (arith, taken_bounds b.args.p b.pre.0)
--- TODO -- no new name for overflow-add-if3
--- TODO add-if3 : tie.Need-overflow-add-if3
--- TODO add-if3 c =
--- TODO     let n = c.before.before.before.before in
--- TODO     let b = start n in omega (arith, taken_bounds b.args.p b.pre.0, b.pre.2.sized.stamps_low n.before.next.result)

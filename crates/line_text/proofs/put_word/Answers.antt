@@ -1,5 +1,4 @@
 -- `line_text::put_word` meets its contract. The loop's invariant: the first i bytes of the word are added.
-use Prim.Native.Nat.{◌-◌}
 use borrow.Author.Rules.{rules}
 use Rattle.line_text.proofs.Growth.{nothing, next, last}
 use Rattle.line_text.proofs.put_word.Goals as goal

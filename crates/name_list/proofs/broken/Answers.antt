@@ -77,7 +77,3 @@ returns c =     let l = c.loop-i in
     let list = c.args.list.now in
     or-next (le-ltb 8192 (length list) c.if-list-gt-MOST_BYTES.false)
     (sym (broken-end l.invariant.1.0 l.least (drop l.i list) (omega (arith, length-drop l.i list, c.loop-i-test.false))) ∙ l.invariant.1.2)
-
--- TODO -- no new name for overflow-add-i-2
--- TODO add-i-2 : tie.Need-overflow-add-i-2 invariant-loop decreases-loop
--- TODO add-i-2 c = record { fits = omega (arith, (on c.before.before.before.before).fits, c.wide2.ensures.0) }

@@ -4,9 +4,7 @@ use lib.ListN.{length-take}
 use Rattle.named_text.proofs.Growth.{renamed, whole, from_start}
 use Rattle.named_text.proofs.unnamed.Goals as goal
 
-pub put_part-requires : goal.put_part-requires
-put_part-requires c = (omega arith, omega (arith, slice-aggregate-put-part c), omega (arith, c.nothing.ensures.1))
-
 pub returns : goal.returns
-returns c =     let a = c.args.line in
+returns c =
+    let a = c.args.line in
     whole c.nothing.ensures.0 (renamed (from_start a.len a.bytes) c.put_part.ensures) (omega (arith, length-take a.len a.bytes))

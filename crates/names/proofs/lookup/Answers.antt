@@ -101,7 +101,3 @@ returns c =     let l = c.loop-i in
     part_at _ _ _ l.i 0
     (left_end list c.args.first l.i l.invariant.1 c.loop-i-test.false)
     refl (omega arith) (part-all list l.i ∙ drop_of_length-le list c.loop-i-test.false)
-
--- TODO -- no new name for overflow-sub-result
--- TODO sub-result : tie.Need-overflow-sub-result invariant-loop decreases-loop
--- TODO sub-result c = omega arith

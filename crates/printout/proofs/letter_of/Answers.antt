@@ -1,5 +1,6 @@
 -- `printout::letter_of` meets its contract.
 use Prim.Native.Nat.{ℕ, zero, suc}
+use native.Mathlib.Omega.{arith}
 use mathlib.Core.Path.{◌≡◌, refl, sym, ap}
 use Rattle.printout.specs.Text.{letter}
 use Rattle.printout.proofs.letter_of.Goals as goal
@@ -12,11 +13,11 @@ other (suc (suc kind)) not_0 not-1 = refl
 
 pub returns-in-0 : goal.returns-in-0
 unfolding letter
-returns-in-0 c = sym (ap letter c.in-0.keys1)
+returns-in-0 c = sym (ap letter c.in-0.is)
 
 pub returns-in-1 : goal.returns-in-1
 unfolding letter
-returns-in-1 c = sym (ap letter c.in-0.keys2)
+returns-in-1 c = sym (ap letter c.in-1.is)
 
 pub returns-in_default : goal.returns-in_default
-returns-in_default c = other c.args.kind c.in-0.rest.0.1 c.in-0.rest.1
+returns-in_default c = other c.args.kind (omega arith) (omega arith)

@@ -24,10 +24,3 @@ returns c =
         not_negative _ c.ranges.moment c.if-moment-lt0.false in
     put_plain _ plain
     (subst (λ (z : ℤ). Added c.args.t (decimal (nat_abs z)) 20 c.put_number-2.result) (to_z-of_z w64 c.args.moment c.ranges.moment) c.put_number-2.ensures)
-
--- TODO -- no new name for overflow-cast-put-number
--- TODO cast-put-number : tie.Need-overflow-cast-put-number
--- TODO cast-put-number c =
--- TODO     let s = c.before in
--- TODO     subst (λ (z : ℤ). T (non_neg z) × Fits w64 (nat_abs z)) (sym (to_z-of_z w64 s.args.moment s.ranges.moment))
--- TODO     (plain c, record { fits = omega (arith, nat_abs-le s.args.moment s.ranges.moment.sfits) })
