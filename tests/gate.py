@@ -1,11 +1,13 @@
 #!/usr/bin/env python3
-""".ci/run, in folders of stand-ins for rt and for the tests: its last line is 'N passed, 0 failed' only where rt ci and every test
-passed, and is nowhere in what it prints where one of them failed, was killed, or the script itself was. What it started is gone when it
-ends: where one stream of tests has failed, a test hangs, or a signal comes.
+""".ci/run, in folders of stand-ins for rt and for the tests: it runs a plain `rt ci` in the checkout as it is; its last line is
+'N passed, 0 failed' only where rt ci passed with no bad edit and every test did, and is nowhere in what it prints where one of them failed,
+was killed, or the script itself was. What it started is gone when it ends: where one stream of tests has failed, a test hangs, or a signal
+comes.
 
     tests/gate.py     exits 1 at the first path that ends otherwise"""
 import os
 import re
+import shutil
 import signal
 import subprocess
 import sys
@@ -17,6 +19,7 @@ TOP = os.path.dirname(os.path.dirname(os.path.abspath(__file__)))
 PATIENCE = 60  # seconds for what takes a part of one
 KIT = 'a-kit logic 0123'
 PASSED = '7 passed, 0 failed'
+OK = 'rt: ok; handles allowed: none; must-fail edits: 3 refused; every proof and must-fail edit was done in this run'
 NEVER = re.compile(r'\d+ passed, 0 failed')
 
 
@@ -34,13 +37,14 @@ ENDING = signal.SIGTERM, signal.SIGINT, signal.SIGHUP
 
 
 class Stand:
-    """A folder with a copy of the gate, a stand-in for rt and one for each test that the gate names. Each test leaves its name in
-    `ran`; `rt ci` prints a line and then PASSED, `proving` being what it does before that, or instead of it."""
+    """A folder with a copy of the gate, a stand-in for rt, one for each test that the gate names and one for .ci/take. Each test leaves its
+    name in `ran`; `rt ci` prints a line, OK and then PASSED, `proving` being what it does before that, or instead of it."""
 
     def __init__(self, top):
         self.top = top
-        for name in ('.ci', 'docs', 'tests', 'bin', 'target/log'):
+        for name in ('.ci', 'docs', 'tests', 'tools', 'bin', 'crates/stretch_c'):
             os.makedirs(os.path.join(top, name))
+        shutil.copy(os.path.join(TOP, 'tools', 'archive'), os.path.join(top, 'tools', 'archive'))
         with open(os.path.join(TOP, '.ci', 'run'), encoding='utf-8') as gate:
             text = gate.read()
         self.gate = os.path.join(top, '.ci', 'run')
@@ -60,10 +64,19 @@ class Stand:
         script_of(os.path.join(self.top, name), [f'echo {name} >>ran', *does])
         script_of(os.path.join(self.top, 'bin', 'python3'), ['exec "$@"'])
 
-    def rt(self, proving=('echo some crate', f'echo {PASSED}'), fmt=0, archive=0):
+    def rt(self, proving=('echo some crate', f'echo "{OK}"', f'echo {PASSED}'), archive=('echo archive >out/libstretch_c.a',),
+           sums=('echo sum', 'exit 0')):
+        """`archive` is what `rt lib` does, and `sums` what .ci/take does before rt ci and behind it, where it is given the sum. Each time rt is
+        run it leaves its words in `asked`, and the place."""
         script_of(os.path.join(self.top, 'bin', 'rt'), [
-            'case "$1" in', f'version) echo {KIT} ;;', f'fmt) exit {fmt} ;;',
-            f'staticlib) echo "rt: target/staticlib/libstretch.a"; exit {archive} ;;', 'ci)', *proving, ';;', 'esac'])
+            f'echo "${{PWD#{self.top}}}:$*" >>{self.top}/asked', 'case "$*" in', f'version) echo {KIT} ;;',
+            'lib) echo "rt: what lib says"; mkdir out;', *archive, ';;',
+            f'ci) find . ! -path ./asked ! -path ./found | sort >{self.top}/found;', *proving, ';;', '*) exit 9 ;;', 'esac'])
+        script_of(os.path.join(self.top, '.ci', 'take'), ['case "$*" in', f"'') {sums[0]} ;;", f'sum) {sums[1]} ;;', '*) exit 9 ;;', 'esac'])
+
+    def lines_of(self, name):
+        with open(os.path.join(self.top, name), encoding='utf-8') as lines:
+            return lines.read().splitlines()
 
     def waits(self, name):
         """A test, or rt, that waits until it is ended, or for half of our patience. It leaves its number."""
@@ -140,9 +153,17 @@ def programs():
 def passes():
     with tempfile.TemporaryDirectory() as top:
         stand = Stand(top)
+        there = sorted(['.', *(os.path.join('.', os.path.relpath(os.path.join(folder, name), top)) for folder, folders, names in os.walk(top)
+                               for name in folders + names)])
         output, status = stand.run()
         if status != 0 or output.splitlines()[-1] != PASSED or len(NEVER.findall(output)) != 1 or f'kit {KIT}\n' not in output:
             wrong('all passed', output)
+        if stand.lines_of('asked') != [':version', ':ci', '/crates/stretch_c:lib']:
+            wrong(f'rt was asked {stand.lines_of("asked")}', output)
+        if sorted(stand.lines_of('found')) != there:
+            wrong(f'rt ci finds {stand.lines_of("found")}, and not the folder as it was: {there}', output)
+        if stand.lines_of('target/staticlib/libstretch.a') != ['archive']:
+            wrong('the archive is not the one that rt lib has made', output)
         if stand.ran() != programs():
             wrong(f'the tests that ran are {stand.ran()}, expected {programs()}', output)
         with open(os.path.join(top, 'docs', 'TRUST.md'), 'w', encoding='utf-8') as trust:
@@ -162,6 +183,16 @@ def fails(what, change, stream=None, said='', nowhere=True):
             wrong(f'{what}: status {status}', output)
         if stream is None and stand.ran() or stream is not None and not set(stream) <= set(stand.ran()):
             wrong(f'{what}: the tests that ran are {stand.ran()}', output)
+
+
+def goes_on(change):
+    """What is no failure."""
+    with tempfile.TemporaryDirectory() as top:
+        stand = Stand(top)
+        change(stand)
+        output, status = stand.run()
+        if status != 0 or output.splitlines()[-1] != PASSED or stand.ran() != stand.tests:
+            wrong(f'no failure: status {status}', output)
 
 
 def ends_the_other(failing, other, *first):
@@ -201,7 +232,7 @@ def killed(number):
     if number != signal.SIGKILL:
         with tempfile.TemporaryDirectory() as top:
             stand = Stand(top)
-            stand.rt(['echo some crate', *stand.waits('rt')])
+            stand.rt(['echo some crate', *stand.waits('rt'), f'echo "{OK}"', f'echo {PASSED}'])
             ended(number, stand, ['rt'])
 
 
@@ -235,7 +266,7 @@ def as_it_comes():
     """A line of rt ci is printed when the next one is there, and not at the end."""
     with tempfile.TemporaryDirectory() as top:
         stand = Stand(top)
-        stand.rt(['echo first', 'echo second', 'while [ ! -e seen ]; do sleep 0.05; done', f'echo {PASSED}'])
+        stand.rt(['echo first', 'echo second', 'while [ ! -e seen ]; do sleep 0.05; done', f'echo "{OK}"', f'echo {PASSED}'])
         with stand.start() as gate:
             for line in gate.stdout:
                 if line == 'first\n':
@@ -259,18 +290,30 @@ def cases():
             yield fails, f'{name} fails', lambda stand, name=name: stand.test(name, ['exit 1']), stream
         yield fails, 'a test is killed', lambda stand, stream=stream: stand.test(stream[0], ['kill -9 $$']), stream
         yield fails, 'two tests fail', lambda stand, stream=stream: [stand.test(name, ['exit 3']) for name in stream[:2]], stream
-    yield fails, 'the archive is not built', lambda stand: stand.rt(archive=1), None, 'libstretch.a'
-    yield fails, 'the layout is not that of rt fmt', lambda stand: stand.rt(fmt=1)
+    for what, archive in (('is not proved', ['exit 1']), ('is proved and not there', ['exit 0']),
+                          ('is there and not proved', ['echo archive >out/libstretch_c.a', 'exit 1'])):
+        yield fails, f'the archive {what}', lambda stand, archive=archive: stand.rt(archive=archive), None, 'what lib says'
+    yield fails, 'the sources cannot be read', lambda stand: stand.rt(sums=('exit 1', 'exit 0'))
+    yield fails, 'a program is not there, or its sources were changed', lambda stand: stand.rt(sums=('echo sum', 'echo say why; exit 1')), None, 'say why'
     one_failed = '6 passed, 1 failed'
     yield fails, 'a crate fails', lambda stand: stand.rt([f'echo {one_failed}', 'exit 1']), None, f'\n{one_failed}\n'
     for what, proving in (
             ('a crate fails, with status 0', [f'echo {one_failed}']),
+            ('a crate fails, with status 0, behind a line that says otherwise', [f'echo "{OK}"', f'echo {one_failed}']),
             ('rt ci prints nothing', ['exit 0']),
             ('rt ci is killed', ['echo some crate', 'kill -9 $$']),
-            ('rt ci is killed behind its last line', [f'echo {PASSED}', 'kill -9 $$']),
-            ('rt ci fails behind its last line', [f'echo {PASSED}', 'exit 2'])):
-        yield fails, what, lambda stand, proving=proving: stand.rt(proving)
-    yield fails, 'rt ci goes on behind that line', lambda stand: stand.rt([f'echo {PASSED}', 'echo and more']), None, '', False
+            ('rt ci is killed behind its last line', [f'echo "{OK}"', f'echo {PASSED}', 'kill -9 $$']),
+            ('rt ci fails behind its last line', [f'echo "{OK}"', f'echo {PASSED}', 'exit 2']),
+            ('some crates alone are proved', [f'echo "{OK}"', f'echo "{PASSED} (low and the crates below alone: not the gate)"']),
+            ('rt ci does not say ok', [f'echo {PASSED}']),
+            ('rt ci says another word', ['echo "rt: okay, nearly"', f'echo {PASSED}'])):
+        yield fails, what, lambda stand, proving=proving: stand.rt(proving), None, '', 'alone' not in what
+    for edits in ('3 refused, 2 bad', '0 refused, 1 bad', '13 refused, 2 of them only by a limit, 10 bad'):
+        said = OK.replace('3 refused', edits)
+        yield fails, f'must-fail edits: {edits}', lambda stand, said=said: stand.rt([f'echo "{said}"', f'echo {PASSED}']), None, said
+    limited = OK.replace('3 refused', '3 refused, 1 of them only by a limit')
+    yield goes_on, lambda stand: stand.rt([f'echo "{limited}"', f'echo {PASSED}'])
+    yield (fails, 'rt ci goes on behind that line', lambda stand: stand.rt([f'echo "{OK}"', f'echo {PASSED}', 'echo and more']), None, '', False)
 
 
 def share(these):

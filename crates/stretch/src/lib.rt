@@ -96,8 +96,7 @@ pub fn judge(property: &[u8], trace: &[u8]) -> Judged
 }
 
 // The same in one number, for C: refusal × 65,536 + verdict × 16,384 + count.
-#[unsafe(no_mangle)]
-pub extern "C" fn anthegyra_stretch_judge(property: &[u8], trace: &[u8]) -> u64
+pub fn anthegyra_stretch_judge(property: &[u8], trace: &[u8]) -> u64
     ensures { result ≡ one_number (judge_of property.now trace.now) }
 {
     let judged = judge(property, trace);
@@ -107,9 +106,8 @@ pub extern "C" fn anthegyra_stretch_judge(property: &[u8], trace: &[u8]) -> u64
     judged.refusal * 65536 + judged.verdict * 16384 + (judged.count as u64)
 }
 
-// Which header this archive goes with.
-#[unsafe(no_mangle)]
-pub extern "C" fn anthegyra_version() -> u64
+// Which header the archive goes with.
+pub fn anthegyra_version() -> u64
     ensures { result ≡ interface_version }
 {
     VERSION
