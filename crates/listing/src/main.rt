@@ -2,6 +2,8 @@
 // record and no further, and writes their listing to standard output.
 #![tactic(auto)]
 
-fn main() {
-    listing_shell::list(libc::STDIN_FILENO, listing_shell::Form::Record);
+fn main(rt: HostRuntime) {
+    let mut input = rt.stdin();
+    let mut out = rt.stdout();
+    listing_shell::list(&mut input, &mut out, listing_shell::Form::Record);
 }

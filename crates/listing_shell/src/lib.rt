@@ -1,5 +1,5 @@
-// The printing programs but for the place that the input comes from and the form of its records: a packed property and records
-// are read from a descriptor, and the listing is written to standard output. What is written, the crate `printed` says.
+// The printing programs but for the places that the input comes from and the listing goes to, and the form of the records: a packed
+// property and records are read, and the listing is written. What is written, the crate `printed` says.
 #![tactic(auto)]
 
 ghost use Rattle.std.specs.Prelude.{◌≤◌, ◌≡◌, true, false, length, take};
@@ -16,7 +16,6 @@ ghost use Rattle.listing_shell.specs.Form.{size_of, reader_of, Lists};
 ghost use Rattle.listing_shell.specs.Next.{Begun, Follows};
 
 use held::Status;
-use libc::STDOUT_FILENO;
 use line_text::Text;
 use printed::Printed;
 use printed::lent::Added;
@@ -24,28 +23,78 @@ use property::Property;
 use record_form::RecordRead;
 use rows::Words;
 use session_record::Session;
+use std::io::{Read, Write};
 use table::Table;
 
-pub fn write_front(bytes: &[u8], len: usize) -> bool
+// Reads until `buf` is full, the input ends or a read fails, and answers how many bytes it put to the front of `buf`. A reader that keeps
+// nothing back, as standard input or a file, is asked for no more bytes than there is room for. A read that a signal interrupts has failed.
+pub fn read_full<R: Read>(input: &mut R, buf: &mut [u8]) -> usize
+    ensures { IsPrefixLen result buf.new }
+{
+    let mut done = 0;
+    while done < buf.len() {
+        let n = read_some(input, &mut buf[done..]);
+        if n == 0 {
+            break;
+        }
+        done += n;
+    }
+    done
+}
+
+// One read. That it failed, and that the input has ended, it answers by 0.
+fn read_some<R: Read>(input: &mut R, buf: &mut [u8]) -> usize
+    ensures { IsPrefixLen result buf.new }
+{
+    match input.read(buf) {
+        Ok(n) => n,
+        Err(_) => 0,
+    }
+}
+
+// Writes all bytes, or stops at the first write that takes none or fails.
+pub fn write_all<W: Write>(out: &mut W, bytes: &[u8]) -> bool {
+    let mut done = 0;
+    while done < bytes.len() {
+        let n = write_some(out, &bytes[done..]);
+        if n == 0 {
+            return false;
+        }
+        done += n;
+    }
+    true
+}
+
+// One write. That it failed it answers by 0.
+fn write_some<W: Write>(out: &mut W, bytes: &[u8]) -> usize
+    ensures { result ≤ length bytes.now }
+{
+    match out.write(bytes) {
+        Ok(n) => n,
+        Err(_) => 0,
+    }
+}
+
+pub fn write_front<W: Write>(out: &mut W, bytes: &[u8], len: usize) -> bool
     requires { len ≤ length bytes.now }
 {
-    io::write_all(STDOUT_FILENO, &bytes[..len])
+    write_all(out, &bytes[..len])
 }
 
 // Writes a line at once: who reads the listing sees it before the next record comes.
-pub fn write(text: Text) -> bool
+pub fn write<W: Write>(out: &mut W, text: Text) -> bool
     requires { text.len ≤ room }
 {
     let bytes = text.bytes;
-    write_front(&bytes, text.len)
+    write_front(out, &bytes, text.len)
 }
 
 // Writes what was added, and answers whether the listing goes on. One that cannot be written does not.
-pub fn shown(text: Text, more: bool) -> bool
+pub fn shown<W: Write>(out: &mut W, text: Text, more: bool) -> bool
     requires { text.len ≤ room }
     ensures { result ≡ true → more ≡ true }
 {
-    if write(text) {
+    if write(out, text) {
         return more;
     }
     false
@@ -53,23 +102,23 @@ pub fn shown(text: Text, more: bool) -> bool
 
 // Reads a packed property to the front of `form`. Its first byte says how many bytes it has, and no more are read. Input that
 // ends early and a read that fails leave fewer, which the answer then refuses.
-pub fn read_form(fd: i32, form: &mut [u8]) -> usize
+pub fn read_form<R: Read>(input: &mut R, form: &mut [u8]) -> usize
     requires { 71 ≤ length form.old }
     ensures { IsPrefixLen result form.new × (result ≤ form_size (length_read (take result form.new))) }
 {
-    if io::read_full(fd, &mut form[..1]) == 0 {
+    if read_full(input, &mut form[..1]) == 0 {
         return 0;
     }
     let size = printed::size(form[0]);
-    1 + io::read_full(fd, &mut form[1..size])
+    1 + read_full(input, &mut form[1..size])
 }
 
 // Reads the property.
-pub fn begun(fd: i32) -> Printed
+pub fn begun<R: Read>(input: &mut R) -> Printed
     ensures { Begun result × (result.text.len ≤ room) × (result.more ≡ true → out_of_range result.session ≡ false) }
 {
     let mut form = [0u8; 71];
-    let got = read_form(fd, &mut form);
+    let got = read_form(input, &mut form);
     printed::begin(&form[..got])
 }
 
@@ -101,8 +150,8 @@ fn read_record(form: Form, bytes: &[u8], before: u64) -> RecordRead
 }
 
 // Reads one record.
-fn next(
-    fd: i32,
+fn next<R: Read>(
+    input: &mut R,
     form: Form,
     p: Property,
     table: &Table,
@@ -115,7 +164,7 @@ fn next(
 {
     let size = record_size(form);
     let mut bytes = [0u8; 6];
-    let got = io::read_full(fd, &mut bytes[..size]);
+    let got = read_full(input, &mut bytes[..size]);
     let clock = status.clock;
     let read = read_record(form, &bytes[..got], clock.latest);
     printed::lent::record(p, table, rows, status, count, read)
@@ -123,16 +172,16 @@ fn next(
 
 // Writes what a record added, and answers whether the listing goes on. The form, the property and the number of records so far are there for
 // the contract alone: they say which text is the next of the listing, and no other can be put.
-fn put(form: Form, p: Property, records: u64, text: Text, more: bool) -> bool
+fn put<W: Write>(out: &mut W, form: Form, p: Property, records: u64, text: Text, more: bool) -> bool
     requires { Follows form p records text × (text.len ≤ room) }
     ensures { result ≡ true → more ≡ true }
 {
-    shown(text, more)
+    shown(out, text, more)
 }
 
 // Lists the records. The table is made once, and the rows are lent from record to record. A proved loop has to end, and
 // nothing says that the input does: the loop counts its turns, up to a number that no run comes to.
-fn records(fd: i32, form: Form, s: Session)
+fn records<R: Read, W: Write>(input: &mut R, out: &mut W, form: Form, s: Session)
     requires { (s ≡ (fresh_of s.property).session) × (out_of_range s ≡ false) }
 {
     let p = s.property;
@@ -143,8 +192,8 @@ fn records(fd: i32, form: Form, s: Session)
     let mut count = 0;
     let mut turns = 0;
     while turns < u64::MAX {
-        let r = next(fd, form, p, &table, &mut rows, status, count);
-        if !put(form, p, turns, r.text, r.more) {
+        let r = next(input, form, p, &table, &mut rows, status, count);
+        if !put(out, form, p, turns, r.text, r.more) {
             return;
         }
         status = r.status;
@@ -153,13 +202,13 @@ fn records(fd: i32, form: Form, s: Session)
     }
 }
 
-// Lists what comes from the descriptor, up to the end record or a refusal and no further.
-pub fn list(fd: i32, form: Form) {
-    if !write(printout::header()) {
+// Lists what comes, up to the end record or a refusal and no further.
+pub fn list<R: Read, W: Write>(input: &mut R, out: &mut W, form: Form) {
+    if !write(out, printout::header()) {
         return;
     }
-    let b = begun(fd);
-    if shown(b.text, b.more) {
-        records(fd, form, b.session);
+    let b = begun(input);
+    if shown(out, b.text, b.more) {
+        records(input, out, form, b.session);
     }
 }

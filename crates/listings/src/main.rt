@@ -2,28 +2,28 @@
 // the gate, which gives a program one standard input only. README.md says what each file of data/ is.
 #![tactic(auto)]
 
-use libc::STDOUT_FILENO;
+use listing_shell::Form;
+use std::fs::File;
+use std::{env, io};
 
-fn list_file(i: usize) {
-    let mut path = io::buffer();
-    let n = os::arg(i, &mut path);
-    let fd = os::open_read(&path[..n]);
-    if fd < 0 {
-        os::fail(&path[..n]);
-        return;
+fn list_file(rt: &HostRuntime, path: &str) {
+    match File::open(rt, path) {
+        Ok(mut file) => {
+            let mut out = rt.stdout();
+            listing_shell::write_all(&mut out, b"== ");
+            listing_shell::write_all(&mut out, path.as_bytes());
+            listing_shell::write_all(&mut out, b"\n");
+            listing_shell::list(&mut file, &mut out, Form::Record);
+        }
+        Err(e) => {
+            let _ = eprintln!(rt; "{path}: {e}");
+        }
     }
-    io::write_all(STDOUT_FILENO, b"== ");
-    io::write_all(STDOUT_FILENO, &path[..n]);
-    io::write_all(STDOUT_FILENO, b"\n");
-    listing_shell::list(fd, listing_shell::Form::Record);
-    libc::close(fd);
 }
 
-fn main() {
-    let count = os::arg_count();
-    let mut i = 1;
-    while i < count {
-        list_file(i);
-        i += 1;
+fn main(rt: HostRuntime) -> io::Result<()> {
+    for path in env::args(&rt)?.skip(1) {
+        list_file(&rt, path.as_str());
     }
+    Ok(())
 }

@@ -12,6 +12,7 @@ ghost use Rattle.named_listing.specs.Next.{ListCame, NamedFollows};
 use named_text::NamedText;
 use property::Property;
 use session_record::Session;
+use std::io::{Read, Write};
 
 // What was read of a list, and its refusal.
 #[derive(Clone, Copy)]
@@ -21,22 +22,22 @@ struct ListRead {
 }
 
 // Reads so many bytes to the front of `list`, or fewer where the input ends.
-fn read_front(fd: i32, list: &mut [u8], size: usize) -> usize
+fn read_front<R: Read>(input: &mut R, list: &mut [u8], size: usize) -> usize
     requires { size ≤ length list.old }
     ensures { IsPrefixLen result list.new × (result ≤ size) }
 {
-    io::read_full(fd, &mut list[..size])
+    listing_shell::read_full(input, &mut list[..size])
 }
 
 // Reads a list. Input that ends early and a read that fails leave fewer bytes, which is then refused.
-fn read_list(fd: i32, of_release: bool, list: &mut [u8]) -> ListRead
+fn read_list<R: Read>(input: &mut R, of_release: bool, list: &mut [u8]) -> ListRead
     requires { 65536 ≤ length list.old }
     ensures { IsPrefixLen result.len list.new × ListCame of_release list.new result }
 {
     let mut head = [0u8; 2];
-    let got = io::read_full(fd, &mut head);
+    let got = listing_shell::read_full(input, &mut head);
     let size = name_list::size(head[0], head[1]);
-    let len = read_front(fd, list, size);
+    let len = read_front(input, list, size);
     ListRead {
         refusal: name_list::refused(of_release, &head[..got], &list[..len]),
         len: len,
@@ -45,7 +46,8 @@ fn read_list(fd: i32, of_release: bool, list: &mut [u8]) -> ListRead
 
 // Writes what a record added, at once, and answers whether the listing goes on. One that cannot be written does not. The lists, the property
 // and the number of records so far are there for the contract alone: they say which text is the next of the listing, and no other can be put.
-fn put<'a>(
+fn put<'a, W: Write>(
+    out: &mut W,
     site: &'a [u8],
     release: &'a [u8],
     p: Property,
@@ -57,7 +59,7 @@ fn put<'a>(
     ensures { result ≡ true → more ≡ true }
 {
     let bytes = text.bytes;
-    if listing_shell::write_front(&bytes, text.len) {
+    if listing_shell::write_front(out, &bytes, text.len) {
         return more;
     }
     false
@@ -65,7 +67,13 @@ fn put<'a>(
 
 // Lists the records. A proved loop has to end, and nothing says that the input does: the loop counts its turns, up to a number that no
 // run comes to.
-fn records<'a>(fd: i32, site: &'a [u8], release: &'a [u8], s: Session)
+fn records<'a, R: Read, W: Write>(
+    input: &mut R,
+    out: &mut W,
+    site: &'a [u8],
+    release: &'a [u8],
+    s: Session,
+)
     requires { s ≡ (fresh_of s.property).session }
 {
     let p = s.property;
@@ -74,9 +82,9 @@ fn records<'a>(fd: i32, site: &'a [u8], release: &'a [u8], s: Session)
     let mut turns = 0;
     while turns < u64::MAX {
         let mut bytes = [0u8; 6];
-        let got = io::read_full(fd, &mut bytes);
+        let got = listing_shell::read_full(input, &mut bytes);
         let r = named::record(site, release, session, count, &bytes[..got]);
-        if !put(site, release, p, turns, r.text, r.more) {
+        if !put(out, site, release, p, turns, r.text, r.more) {
             return;
         }
         session = r.session;
@@ -86,36 +94,42 @@ fn records<'a>(fd: i32, site: &'a [u8], release: &'a [u8], s: Session)
 }
 
 // Lists what stands behind the two lists.
-fn log<'a>(fd: i32, site: &'a [u8], release: &'a [u8]) {
-    let b = listing_shell::begun(fd);
-    if listing_shell::shown(b.text, b.more) {
-        records(fd, site, release, b.session);
+fn log<'a, R: Read, W: Write>(input: &mut R, out: &mut W, site: &'a [u8], release: &'a [u8]) {
+    let b = listing_shell::begun(input);
+    if listing_shell::shown(out, b.text, b.more) {
+        records(input, out, site, release, b.session);
     }
 }
 
 // A list that is refused ends the listing.
-fn stop(refusal: u64) {
-    listing_shell::write(printout::stop(0, refusal));
+fn stop<W: Write>(out: &mut W, refusal: u64) {
+    listing_shell::write(out, printout::stop(0, refusal));
 }
 
-fn main() {
-    let fd = libc::STDIN_FILENO;
-    if !listing_shell::write(printout::named_header()) {
+fn main(rt: HostRuntime) {
+    let mut input = rt.stdin();
+    let mut out = rt.stdout();
+    if !listing_shell::write(&mut out, printout::named_header()) {
         return;
     }
     let mut site = io::large_buffer();
-    let own = read_list(fd, false, &mut site);
+    let own = read_list(&mut input, false, &mut site);
     if own.refusal != 0 {
-        stop(own.refusal);
+        stop(&mut out, own.refusal);
         return;
     }
     let mut release = io::large_buffer();
-    let other = read_list(fd, true, &mut release);
+    let other = read_list(&mut input, true, &mut release);
     if other.refusal != 0 {
-        stop(other.refusal);
+        stop(&mut out, other.refusal);
         return;
     }
     let site_len = own.len;
     let release_len = other.len;
-    log(fd, &site[..site_len], &release[..release_len]);
+    log(
+        &mut input,
+        &mut out,
+        &site[..site_len],
+        &release[..release_len],
+    );
 }

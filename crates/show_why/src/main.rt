@@ -14,17 +14,17 @@ ghost use Rattle.show_why.specs.Told.{Explained};
 
 use held::Status;
 use judged_rest::Reason;
-use libc::STDIN_FILENO;
 use limits::MOST_LINES;
 use open_run::Noted;
 use property::Property;
 use rows::Words;
+use std::io::{Read, Write};
 use table::Table;
 use walk::Did;
 
 // Reads one record.
-fn next(
-    fd: i32,
+fn next<R: Read>(
+    input: &mut R,
     p: Property,
     table: &Table,
     rows: &mut [Words],
@@ -40,7 +40,7 @@ fn next(
         (in_lines outputs.new actions.new stamps.new result.count) }
 {
     let mut bytes = [0u8; 6];
-    let got = io::read_full(fd, &mut bytes);
+    let got = listing_shell::read_full(input, &mut bytes);
     let clock = status.clock;
     let read = record_form::read_record(&bytes[..got], clock.latest);
     open_run::take(
@@ -49,17 +49,17 @@ fn next(
 }
 
 // The one line after a refusal.
-fn stop(refusal: u64) {
-    listing_shell::write(reason_text::stop(refusal));
+fn stop<W: Write>(out: &mut W, refusal: u64) {
+    listing_shell::write(out, reason_text::stop(refusal));
 }
 
 // Writes an order, a line at a time, and answers whether it could be written.
-fn order(numbers: &[u64; 256], moments: &[i64; 256], count: usize) -> bool
+fn order<W: Write>(out: &mut W, numbers: &[u64; 256], moments: &[i64; 256], count: usize) -> bool
     requires { count ≤ most_lines }
 {
     let mut i = 0;
     while i < count {
-        if !listing_shell::write(reason_text::placed(numbers[i], moments[i])) {
+        if !listing_shell::write(out, reason_text::placed(numbers[i], moments[i])) {
             return false;
         }
         i += 1;
@@ -69,7 +69,8 @@ fn order(numbers: &[u64; 256], moments: &[i64; 256], count: usize) -> bool
 
 // Writes what was found of the run that is open, which has so many lines. The session that has it open is lent for the promise alone: the
 // rows and what stands beside them, after so many records.
-fn found(
+fn found<W: Write>(
+    out: &mut W,
     p: Property,
     rows: &[Words],
     status: Status,
@@ -84,22 +85,23 @@ fn found(
     requires { Explained (memory p rows.now status) taken count r (pair numbers.now moments.now) (pair numbers2.now moments2.now) }
 {
     if r.refusal != 0 {
-        stop(r.refusal);
+        stop(out, r.refusal);
         return;
     }
-    if !listing_shell::write(reason_text::reached(r.verdict, r.line)) {
+    if !listing_shell::write(out, reason_text::reached(r.verdict, r.line)) {
         return;
     }
-    if !order(numbers, moments, count) {
+    if !order(out, numbers, moments, count) {
         return;
     }
     if r.verdict == 1 {
-        order(numbers2, moments2, count);
+        order(out, numbers2, moments2, count);
     }
 }
 
 // Writes why the run that is open has its verdict.
-fn tell(
+fn tell<W: Write>(
+    out: &mut W,
     p: Property,
     rows: &[Words],
     status: Status,
@@ -112,7 +114,7 @@ fn tell(
     requires { Open (memory p rows.now status) taken (in_lines outputs.now actions.now stamps.now count) }
 {
     if MOST_LINES < count {
-        stop(13);
+        stop(out, 13);
         return;
     }
     let mut numbers = [0u64; 256];
@@ -130,13 +132,13 @@ fn tell(
         &mut moments2,
     );
     found(
-        p, rows, status, taken, r, &numbers, &moments, &numbers2, &moments2, count,
+        out, p, rows, status, taken, r, &numbers, &moments, &numbers2, &moments2, count,
     );
 }
 
 // Takes the records. The table is made once, and the rows are lent from record to record. A proved loop has to end, and nothing says
 // that the input does: the loop counts its turns, up to a number that no run comes to.
-fn records(fd: i32, p: Property)
+fn records<R: Read, W: Write>(input: &mut R, out: &mut W, p: Property)
     requires { property_refusal (meant p) ≡ 0 }
 {
     let table = table::table(p);
@@ -152,7 +154,7 @@ fn records(fd: i32, p: Property)
     let mut turns = 0;
     while turns < u64::MAX {
         let r = next(
-            fd,
+            input,
             p,
             &table,
             &mut rows,
@@ -172,29 +174,32 @@ fn records(fd: i32, p: Property)
             Did::Ended => {
                 let clock = status.clock;
                 if clock.blind {
-                    listing_shell::write(reason_text::blind());
+                    listing_shell::write(out, reason_text::blind());
                     return;
                 }
                 // Each turn before this one took a record.
-                tell(p, &rows, status, turns, &outputs, &actions, &stamps, count);
+                tell(
+                    out, p, &rows, status, turns, &outputs, &actions, &stamps, count,
+                );
                 return;
             }
             Did::Not(number) => {
-                stop(number);
+                stop(out, number);
                 return;
             }
         }
     }
 }
 
-fn main() {
-    let fd = STDIN_FILENO;
+fn main(rt: HostRuntime) {
+    let mut input = rt.stdin();
+    let mut out = rt.stdout();
     let mut form = [0u8; 71];
-    let got = listing_shell::read_form(fd, &mut form);
+    let got = listing_shell::read_form(&mut input, &mut form);
     let read = property_form::read_property(&form[..got]);
     if read.refusal != 0 {
-        stop(read.refusal);
+        stop(&mut out, read.refusal);
         return;
     }
-    records(fd, read.property);
+    records(&mut input, &mut out, read.property);
 }

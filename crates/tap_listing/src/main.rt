@@ -2,6 +2,8 @@
 // input, up to the end record and no further, and writes their listing to standard output.
 #![tactic(auto)]
 
-fn main() {
-    listing_shell::list(libc::STDIN_FILENO, listing_shell::Form::Tap);
+fn main(rt: HostRuntime) {
+    let mut input = rt.stdin();
+    let mut out = rt.stdout();
+    listing_shell::list(&mut input, &mut out, listing_shell::Form::Tap);
 }

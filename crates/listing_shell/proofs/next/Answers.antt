@@ -1,0 +1,13 @@
+-- `listing_shell::next` meets its contract: what a record adds fits its room, and the rows are ready for the next one.
+use Rattle.std.proofs.Common.{ℕ, length-take, arith}
+use Rattle.session_record.specs.Lent.{memory}
+use Rattle.listing_shell.proofs.Listed.{front-few, lists}
+use Rattle.listing_shell.proofs.next.Goals as goal
+
+pub returns : goal.returns
+returns g c =
+    let a = c.args in
+    let got = c.read_full-got in
+    lists a.form (memory a.p a.rows.now a.status) c.requires.0 c.read_record-read.ensures
+    (front-few got.result _ _ (omega (arith, length-take {A = ℕ})))
+    c.«record».ensures
