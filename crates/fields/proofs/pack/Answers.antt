@@ -1,5 +1,5 @@
 -- `fields::pack` meets its contract. The loop's invariant: the first j bytes are packed, and those behind stand.
-use Prim.Native.Nat.{ℕ, ◌-◌}
+use Prim.Native.Nat.{ℕ}
 use mathlib.Core.Path.{refl, ap, ap₂, ◌∙◌}
 use mathlib.Core.List.{List, ◌++◌}
 use native.Mathlib.Nat.{le_antisymm}

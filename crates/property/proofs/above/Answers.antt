@@ -1,5 +1,4 @@
 -- `property::above` meets its contract. The loop's invariant: no number passed is above 63.
-use Prim.Native.Nat.{◌-◌}
 use mathlib.Core.Path.{sym, ◌∙◌}
 use mathlib.Core.Bool.{false}
 use native.Mathlib.Nat.{not-suc-le-zero}
