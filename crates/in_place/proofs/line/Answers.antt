@@ -43,11 +43,9 @@ begin-none-requires c = (room-none c.args.rows.now c.args.status.span c.requires
 pub run_on-requires : goal.run_on-requires
 run_on-requires c =
     let entry : Memory = memory c.args.p c.args.rows.now c.args.status in
-    let in_time : c.args.stamp ≤ last_stamp =
-        let a = c.args in
+    let in_time : c.args.stamp ≤ last_stamp = let a = c.args in
     line-limit a.p (held_in entry) a.output a.action a.stamp c.refused-number.result c.refused-number.ensures c.if-number-ne0.false in
-    let begun : Holds c.args.p (front_fresh c.args.p) c.begin-none.new.rows c.begin-none.result 0 =
-        let a = c.args in
+    let begun : Holds c.args.p (front_fresh c.args.p) c.begin-none.new.rows c.begin-none.result 0 = let a = c.args in
     subst (λ (s : Span). Holds a.p (front_fresh a.p) c.begin-none.new.rows s 0) (sym c.begin-none.ensures.0)
     (begun-holds entry c.requires.0 a.output a.action a.stamp c.refused-number.result c.refused-number.ensures c.if-number-ne0.false c.begin-none.new.rows c.begin-none.ensures.1) in
     let none_open : c.begin-none.result.count ≡ 0 = ap (λ (s : Span). s.count) c.begin-none.ensures.0 in
@@ -63,8 +61,7 @@ run_on-requires c =
 pub returns-then-clock : goal.returns-then-clock
 returns-then-clock c =
     let entry : Memory = memory c.args.p c.args.rows.now c.args.status in
-    let begun : Holds c.args.p (front_fresh c.args.p) c.begin-none.new.rows c.begin-none.result 0 =
-        let a = c.args in
+    let begun : Holds c.args.p (front_fresh c.args.p) c.begin-none.new.rows c.begin-none.result 0 = let a = c.args in
     subst (λ (s : Span). Holds a.p (front_fresh a.p) c.begin-none.new.rows s 0) (sym c.begin-none.ensures.0)
     (begun-holds entry c.requires.0 a.output a.action a.stamp c.refused-number.result c.refused-number.ensures c.if-number-ne0.false c.begin-none.new.rows c.begin-none.ensures.1) in
     let a = c.args in
@@ -91,8 +88,7 @@ returns-then-open_after-gt-MOST_OPEN c =
 pub run_on-requires-2 : goal.run_on-requires-2
 run_on-requires-2 c =
     let entry : Memory = memory c.args.p c.args.rows.now c.args.status in
-    let in_time : c.args.stamp ≤ last_stamp =
-        let a = c.args in
+    let in_time : c.args.stamp ≤ last_stamp = let a = c.args in
     line-limit a.p (held_in entry) a.output a.action a.stamp c.refused-number.result c.refused-number.ensures c.if-number-ne0.false in
     let fits : (let a = c.args in a.status.span.count - c.closed_count-closed.result + cond a.output 0 1 ≤ most_open) =
         subst (λ (n : ℕ). n ≤ most_open) c.open_after.ensures c.if-open_after-gt-MOST_OPEN.false in
