@@ -13,41 +13,35 @@ use Rattle.judged_rest.proofs.Turns.{judged-start, judged-next}
 use Rattle.judged_rest.proofs.judge.Goals as goal
 
 pub put_cut-requires : goal.put_cut-requires
-put_cut-requires c = 
+put_cut-requires c =
     let room : Room (replicate 4 (replicate 65 0)) c.spanning-span.result =
         subst (Room (replicate 4 (replicate 65 0))) (sym c.spanning-span.ensures)
     (four_room (replicate 65 0) (replicate 65 0) (replicate 65 0) (replicate 65 0) refl refl refl refl none within_none) in
     (room, omega arith, omega arith)
 
 pub loop-k-init : goal.loop-k-init
-loop-k-init c = 
-    let run : Lines =
-        lent c.args.output.now c.args.action.now c.args.stamp.now in
+loop-k-init c =
+    let run : Lines = lent c.args.output.now c.args.action.now c.args.stamp.now in
     let room : Room (replicate 4 (replicate 65 0)) c.spanning-span.result =
         subst (Room (replicate 4 (replicate 65 0))) (sym c.spanning-span.ensures)
     (four_room (replicate 65 0) (replicate 65 0) (replicate 65 0) (replicate 65 0) refl refl refl refl none within_none) in
     let a = c.args in
-    let fits = c.requires.0.2 in
+    let fits = c.requires.p_value.2 in
     let begun =
-    judged-start a.p c.requires.0.0 a.from.cut fits _ c.put_cut.new.rows c.spanning-span.result c.fresh.result room (omega arith)
+    judged-start a.p c.requires.p_value.0 a.from.cut fits _ c.put_cut.new.rows c.spanning-span.result c.fresh.result room (omega arith)
     c.spanning-span.ensures c.fresh.ensures c.put_cut.ensures run a.from refl _ (c.verdict.ensures a.p fits) in
     (begun.0, begun.1, omega arith, search rules)
 
-pub overflow_add-k : goal.overflow_add-k
-overflow_add-k c =     omega (arith, c.loop-k-test.true, c.good)
-
 pub loop-k-preserved : goal.loop-k-preserved
-loop-k-preserved c = 
-    let run : Lines =
-        lent c.args.output.now c.args.action.now c.args.stamp.now in
+loop-k-preserved c =
+    let run : Lines = lent c.args.output.now c.args.action.now c.args.stamp.now in
     let t = c.turn-here in
     let w = c.loop-k in
     (judged-next run c.args.from w.k _ _ _ _ w.invariant.0 t.ensures, t.ensures.ready, omega arith, search rules)
 
 pub returns : goal.returns
-returns c = 
-    let run : Lines =
-        lent c.args.output.now c.args.action.now c.args.stamp.now in
+returns c =
+    let run : Lines = lent c.args.output.now c.args.action.now c.args.stamp.now in
     let w = c.loop-k in
     ap (λ (j : Judged). j.told) w.invariant.0
     ∙ ap (λ (n : ℕ). (judged c.args.p run c.args.from n).told)

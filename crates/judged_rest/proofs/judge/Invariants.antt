@@ -8,7 +8,8 @@ use Rattle.judged_rest.specs.Judged.{judged}
 use Rattle.judged_rest.proofs.judge.Given as goal
 
 abbrev pub invariant-loop-k : goal.invariant-loop-k
-invariant-loop-k l =     (record { cuts = held_in (memory l.p l.rows l.here.status); told = l.here.told } ≡ judged l.p (lent l.output l.action l.stamp) l.from l.k)
+invariant-loop-k l =
+    (record { cuts = held_in (memory l.p l.rows l.here.status); told = l.here.told } ≡ judged l.p (lent l.output l.action l.stamp) l.from l.k)
     × Ready (memory l.p l.rows l.here.status)
     × (l.k ≤ length l.stamp)
     × (length l.rows ≡ 4)

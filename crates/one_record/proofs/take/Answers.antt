@@ -27,22 +27,18 @@ pub returns-in-Gap : goal.returns-in-Gap
 returns-in-Gap c = case_known c.read-in-Gap-1.given.1 (call_takes c.mark.ensures)
 
 pub returns-in-End : goal.returns-in-End
-returns-in-End c = 
-    let as_lent : Status → Memory =
-        memory c.args.p c.args.rows.now in
-    let entry : Memory =
-        as_lent c.args.status in
+returns-in-End c =
+    let as_lent : Status → Memory = memory c.args.p c.args.rows.now in
+    let entry : Memory = as_lent c.args.status in
     let stays : {r t : Reply} → r ≡ t → Takes entry (case_as c.args.read) t.answer (as_lent t.status)
     → Takes entry (case_as c.args.read) r.answer (as_lent r.status) =
         λ e h. subst (λ (x : Reply). Takes entry (case_as c.args.read) x.answer (as_lent x.status)) (sym e) h in
     stays c.unmoved.ensures (case_known c.enum_told-1.given.1 (record { taken = refl; ready = c.requires.0 }))
 
 pub returns-in-Refused : goal.returns-in-Refused
-returns-in-Refused c = 
-    let as_lent : Status → Memory =
-        memory c.args.p c.args.rows.now in
-    let entry : Memory =
-        as_lent c.args.status in
+returns-in-Refused c =
+    let as_lent : Status → Memory = memory c.args.p c.args.rows.now in
+    let entry : Memory = as_lent c.args.status in
     let stays : {r t : Reply} → r ≡ t → Takes entry (case_as c.args.read) t.answer (as_lent t.status)
     → Takes entry (case_as c.args.read) r.answer (as_lent r.status) =
         λ e h. subst (λ (x : Reply). Takes entry (case_as c.args.read) x.answer (as_lent x.status)) (sym e) h in

@@ -7,7 +7,7 @@ use Rattle.order_moments.proofs.Timing.{Timing}
 use Rattle.order_moments.proofs.earliest.Given as goal
 
 abbrev pub invariant-loop-j : goal.invariant-loop-j
-invariant-loop-j l = Timing l.p (lent l.output [] l.stamp) (λ (l.j : ℕ). get_or l.numbers l.j 0 - 1) l.j l.initial.moments l.moments l.m
+invariant-loop-j l = Timing l.p (lent l.output [] l.stamp) (λ (j : ℕ). get_or l.numbers j 0 - 1) l.j l.initial.moments l.moments l.m
 
 abbrev pub decreases-loop-j : goal.decreases-loop-j
 decreases-loop-j l = length l.stamp - l.j

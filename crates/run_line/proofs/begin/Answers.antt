@@ -8,10 +8,12 @@ use Rattle.cuts.specs.Fronts.{with_cut}
 use Rattle.run_line.proofs.begin.Goals as goal
 
 pub put_cut-requires : goal.put_cut-requires
-put_cut-requires c =     (subst (Room c.args.rows.now) (sym c.spanning-span.ensures) c.requires.0, c.requires.1, omega arith)
+put_cut-requires c =
+    (subst (Room c.args.rows.now) (sym c.spanning-span.ensures) c.requires.0, c.requires.1, omega arith)
 
 pub returns : goal.returns
-returns c =     (
+returns c =
+    (
       c.spanning-span.ensures,
       c.put_cut.ensures
           ∙ ap₂ (λ (x : Span) (y : Cut). with_cut c.args.rows.now x 0 0 y) c.spanning-span.ensures c.start.ensures,

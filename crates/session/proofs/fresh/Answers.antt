@@ -9,13 +9,15 @@ use Rattle.session_record.proofs.Making.{blank-fresh, blank-zeros}
 use Rattle.session.proofs.fresh.Goals as goal
 
 pub returns-then-number-ne0 : goal.returns-then-number-ne0
-returns-then-number-ne0 c =     c.unmoved.ensures
+returns-then-number-ne0 c =
+    c.unmoved.ensures
     ∙ ap (λ (s : Session). record { answer = answer_of (Calls.refused c.refused-number.result); session = s })
     (c.blank.ensures ∙ (λ i. blank (c.none.ensures i) (c.none-then-number-ne0.ensures i)) ∙ blank-zeros)
     ∙ sym (fresh-refused c.args.p c.refused-number.result (sym c.refused-number.ensures) c.if-number-ne0.true)
 
 pub returns : goal.returns
-returns c =     let p = c.args.p in
+returns c =
+    let p = c.args.p in
     c.unmoved-2.ensures
     ∙ ap (λ (s : Session). record { answer = answer_of (Calls.refused 0); session = s })
     (c.blank-2.ensures ∙ ap (blank p) c.start.ensures ∙ blank-fresh p)

@@ -5,4 +5,5 @@ use Rattle.session_record.specs.declared.Stepped.{Stepped}
 use Rattle.session.proofs.unmoved.Goals as goal
 
 pub returns : goal.returns
-returns c =     ap {B = Stepped} (λ (x : Answer). record { answer = x; session = c.args.s }) c.refused.ensures
+returns c =
+    ap {B = Stepped} (λ (x : Answer). record { answer = x; session = c.args.s }) c.refused.ensures

@@ -27,16 +27,14 @@ pub slice_bounds-read_record-start : goal.slice_bounds-read_record-start
 slice_bounds-read_record-start c = omega (arith, c.loop-taken.invariant.0.inside)
 
 pub take-told-requires : goal.take-told-requires
-take-told-requires c =     (c.loop-taken.invariant.0.ready, c.requires.1)
+take-told-requires c =
+    (c.loop-taken.invariant.0.ready, c.requires.1)
 
 pub overflow_add-at : goal.overflow_add-at
-overflow_add-at c = 
-    let start : Memory =
-        let w = c.loop-taken in memory c.args.p w.rows w.here in
-    let given : Status → Memory =
-        memory c.args.p c.take-told.new.rows in
-    let next : Memory =
-        given c.take-told.result.status in
+overflow_add-at c =
+    let start : Memory = let w = c.loop-taken in memory c.args.p w.rows w.here in
+    let given : Status → Memory = memory c.args.p c.take-told.new.rows in
+    let next : Memory = given c.take-told.result.status in
     let turned : {did : Did} → c.done-t.result.did ≡ did
     → Turned start c.loop-taken.lost (drop c.loop-taken.at c.args.trace.now) did next c.done-t.result.lost =
         λ e. turned-part c.args.trace.now c.loop-taken.at e
@@ -44,7 +42,7 @@ overflow_add-at c =
     c.loop-taken.lost c.done-t.result c.done-t.ensures) in
     let w = c.loop-taken in
     let h = going_took w.invariant.0 _ _ c.loop-taken-test.true (turned c.enum_told-1.given.1) in
-    omega (arith, h.inside, c.well-formed.1.1.1.1.0)
+    omega (arith, h.inside, c.well_formed.1.1.1.1.0)
 
 pub overflow_add-taken : goal.overflow_add-taken
 overflow_add-taken c = omega (arith, c.loop-taken-test.true, c.ranges.budget)
@@ -53,41 +51,31 @@ pub loop-taken-smaller : goal.loop-taken-smaller
 loop-taken-smaller c = omega arith
 
 pub loop-taken-preserved : goal.loop-taken-preserved
-loop-taken-preserved c = 
-    let start : Memory =
-        let w = c.loop-taken in memory c.args.p w.rows w.here in
-    let given : Status → Memory =
-        memory c.args.p c.take-told.new.rows in
-    let next : Memory =
-        given c.take-told.result.status in
+loop-taken-preserved c =
+    let start : Memory = let w = c.loop-taken in memory c.args.p w.rows w.here in
+    let given : Status → Memory = memory c.args.p c.take-told.new.rows in
+    let next : Memory = given c.take-told.result.status in
     let turned : {did : Did} → c.done-t.result.did ≡ did
     → Turned start c.loop-taken.lost (drop c.loop-taken.at c.args.trace.now) did next c.done-t.result.lost =
         λ e. turned-part c.args.trace.now c.loop-taken.at e
     (read-turned start _ _ c.read_record-read.ensures c.take-told.result.answer next c.take-told.ensures
     c.loop-taken.lost c.done-t.result c.done-t.ensures) in
-    let tall : length next.rows ≡ length c.args.rows.now =
-        search rules in
+    let tall : length next.rows ≡ length c.args.rows.now = search rules in
     let w = c.loop-taken in
     (going_took w.invariant.0 _ _ c.loop-taken-test.true (turned c.enum_told-1.given.1), tall)
 
 pub shape_of-rows-in-Ended : goal.shape_of-rows-in-Ended
-shape_of-rows-in-Ended c = 
-    let given : Status → Memory =
-        memory c.args.p c.take-told.new.rows in
-    let next : Memory =
-        given c.take-told.result.status in
-    let tall : length next.rows ≡ length c.args.rows.now =
-        search rules in
+shape_of-rows-in-Ended c =
+    let given : Status → Memory = memory c.args.p c.take-told.new.rows in
+    let next : Memory = given c.take-told.result.status in
+    let tall : length next.rows ≡ length c.args.rows.now = search rules in
     tall
 
 pub returns-in-Ended : goal.returns-in-Ended
-returns-in-Ended c = 
-    let start : Memory =
-        let w = c.loop-taken in memory c.args.p w.rows w.here in
-    let given : Status → Memory =
-        memory c.args.p c.take-told.new.rows in
-    let next : Memory =
-        given c.take-told.result.status in
+returns-in-Ended c =
+    let start : Memory = let w = c.loop-taken in memory c.args.p w.rows w.here in
+    let given : Status → Memory = memory c.args.p c.take-told.new.rows in
+    let next : Memory = given c.take-told.result.status in
     let turned : {did : Did} → c.done-t.result.did ≡ did
     → Turned start c.loop-taken.lost (drop c.loop-taken.at c.args.trace.now) did next c.done-t.result.lost =
         λ e. turned-part c.args.trace.now c.loop-taken.at e
@@ -98,23 +86,17 @@ returns-in-Ended c =
     (going_ended w.invariant.0 _ _ c.loop-taken-test.true (turned c.enum_told-in-Ended-1.given.1))
 
 pub shape_of-rows-in-Not : goal.shape_of-rows-in-Not
-shape_of-rows-in-Not c = 
-    let given : Status → Memory =
-        memory c.args.p c.take-told.new.rows in
-    let next : Memory =
-        given c.take-told.result.status in
-    let tall : length next.rows ≡ length c.args.rows.now =
-        search rules in
+shape_of-rows-in-Not c =
+    let given : Status → Memory = memory c.args.p c.take-told.new.rows in
+    let next : Memory = given c.take-told.result.status in
+    let tall : length next.rows ≡ length c.args.rows.now = search rules in
     tall
 
 pub returns-in-Not : goal.returns-in-Not
-returns-in-Not c = 
-    let start : Memory =
-        let w = c.loop-taken in memory c.args.p w.rows w.here in
-    let given : Status → Memory =
-        memory c.args.p c.take-told.new.rows in
-    let next : Memory =
-        given c.take-told.result.status in
+returns-in-Not c =
+    let start : Memory = let w = c.loop-taken in memory c.args.p w.rows w.here in
+    let given : Status → Memory = memory c.args.p c.take-told.new.rows in
+    let next : Memory = given c.take-told.result.status in
     let turned : {did : Did} → c.done-t.result.did ≡ did
     → Turned start c.loop-taken.lost (drop c.loop-taken.at c.args.trace.now) did next c.done-t.result.lost =
         λ e. turned-part c.args.trace.now c.loop-taken.at e
@@ -125,15 +107,5 @@ returns-in-Not c =
     (going_refused w.invariant.0 _ _ _ c.loop-taken-test.true (turned c.did-1.given.1))
 
 pub returns : goal.returns
-returns c =     as_gone (memory c.args.p c.loop-taken.rows) c.gone-2.ensures (going_done c.loop-taken.invariant.0 c.loop-taken-test.false)
-
--- TODO -- no new name for overflow-sub-read-record
--- TODO sub-read-record : tie.Need-overflow-sub-read-record invariant-loop decreases-loop
--- TODO sub-read-record c = omega (arith, c.before.before.loop.invariant.0.inside)
--- TODO -- no new name for overflow-add-gone
--- TODO add-gone : tie.Need-overflow-add-gone invariant-loop decreases-loop
--- TODO add-gone c =
--- TODO     let k = c.before.before in
--- TODO     let w = (turn k).before.loop in
--- TODO     let h = going_ended w.inv.0 _ _ (turn k).loop-test.true (turned k c.enum-told2.given.1) in
--- TODO     omega (arith, h.within, (entry k).well-formed.1.1.1.1.0)
+returns c =
+    as_gone (memory c.args.p c.loop-taken.rows) c.gone-2.ensures (going_done c.loop-taken.invariant.0 c.loop-taken-test.false)

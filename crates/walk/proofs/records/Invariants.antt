@@ -7,7 +7,8 @@ use Rattle.walk.proofs.Going.{Going}
 use Rattle.walk.proofs.records.Given as goal
 
 abbrev pub invariant-loop-taken : goal.invariant-loop-taken
-invariant-loop-taken l =     Going l.budget l.taken l.at (memory l.p l.initial.rows l.initial.here) (memory l.p l.rows l.here) l.lost l.trace × (length l.rows ≡ length l.initial.rows)
+invariant-loop-taken l =
+    Going l.budget l.taken l.at (memory l.p l.initial.rows l.initial.here) (memory l.p l.rows l.here) l.lost l.trace × (length l.rows ≡ length l.initial.rows)
 
 abbrev pub decreases-loop-taken : goal.decreases-loop-taken
 decreases-loop-taken l = l.budget - l.taken

@@ -9,7 +9,8 @@ use Rattle.fields.proofs.Rest.{rest_part}
 use Rattle.walk.proofs.walk_rest.Goals as goal
 
 pub returns-then-trace-read : goal.returns-then-trace-read
-returns-then-trace-read c =     let s = c.args.trace.now in
+returns-then-trace-read c =
+    let s = c.args.trace.now in
     rest_part 0 _ _ _ (simp (lt-ltb _ _ c.if-trace-read.true)) refl (omega arith) (sym (take_all (length s - 0) s (omega arith)))
 
 pub returns : goal.returns
