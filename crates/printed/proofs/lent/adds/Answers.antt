@@ -3,6 +3,7 @@ use Rattle.std.proofs.Common.{◌≡◌, ℕ, true, false, List, sym, ap, ◌∙
 use Rattle.meaning.proofs.Refusals.{unless_kept}
 use Rattle.record_form.specs.Record.{input, output, gap}
 use Rattle.one_record.proofs.Takes.{kind_known}
+use Rattle.held.specs.declared.Status.{Status}
 use Rattle.line_text.specs.declared.Text.{Text}
 use Rattle.line_text.specs.Text.{text_of}
 use Rattle.printout.specs.Text.{line_text}
@@ -11,58 +12,49 @@ use Rattle.printed.specs.Printed.{one_after}
 use Rattle.printed.specs.Lent.{next_added, last_added, kind_added}
 use Rattle.printed.proofs.lent.adds.Goals as goal
 
+-- the last line
+ends : (status : Status) (count : ℕ) {r : Added} {text : Text} (line : List ℕ) → r ≡ record { text = text; status = status; count = count; more = false }
+    → text ≡ text_of line → r ≡ last_added status count line
+ends status count line is e = is ∙ ap (λ (t : Text). record { text = t; status = status; count = count; more = false }) e
+
+-- a record's line, with its number
+goes_on : (status : Status) (count number : ℕ) → number ≡ one_after count → {text : Text} (line : ℕ → List ℕ) → text ≡ text_of (line number)
+    → record { text = text; status = status; count = number; more = true } ≡ next_added status count (line (one_after count))
+goes_on status count number is line e =
+    λ i. record { text = (e ∙ ap (λ (k : ℕ). text_of (line k)) is) i; status = status; count = is i; more = true }
+
 pub returns-then-answer-ne0 : goal.returns-then-answer-ne0
-returns-then-answer-ne0 c = 
-    let ends : {r : Added} {text : Text} (line : List ℕ) → r ≡ record { text = text; status = c.args.status; count = c.args.count; more = false } → text ≡ text_of line
-    → r ≡ last_added c.args.status c.args.count line =
-        λ line is e. is ∙ ap (λ (t : Text). record { text = t; status = c.args.status; count = c.args.count; more = false }) e in
-    ends _ c.last.ensures c.stop.ensures ∙ sym (unless_kept _ _ _ c.if-answer-ne0.true)
+returns-then-answer-ne0 c = ends c.args.status c.args.count _ c.last.ensures c.stop.ensures ∙ sym (unless_kept _ _ _ c.if-answer-ne0.true)
 
 pub returns-in-End : goal.returns-in-End
-returns-in-End c = 
-    let ends : {r : Added} {text : Text} (line : List ℕ) → r ≡ record { text = text; status = c.args.status; count = c.args.count; more = false } → text ≡ text_of line
-    → r ≡ last_added c.args.status c.args.count line =
-        λ line is e. is ∙ ap (λ (t : Text). record { text = t; status = c.args.status; count = c.args.count; more = false }) e in
-    kind_known (kind_added _ _ _) _ c.if-answer-ne0.false c.enum_told-1.given.1 (ends _ c.last-in-End.ensures c.end.ensures)
+returns-in-End c =
+    kind_known (kind_added c.args.answer c.args.status c.args.count) _ c.if-answer-ne0.false c.in-End.is
+    (ends c.args.status c.args.count _ c.last-in-End.ensures c.end.ensures)
 
 pub returns-in-Refused : goal.returns-in-Refused
-returns-in-Refused c = 
-    let ends : {r : Added} {text : Text} (line : List ℕ) → r ≡ record { text = text; status = c.args.status; count = c.args.count; more = false } → text ≡ text_of line
-    → r ≡ last_added c.args.status c.args.count line =
-        λ line is e. is ∙ ap (λ (t : Text). record { text = t; status = c.args.status; count = c.args.count; more = false }) e in
-    kind_known (kind_added _ _ _) _ c.if-answer-ne0.false c.read-in-Refused-1.given.1 (ends _ c.last-in-Refused.ensures c.stop-in-Refused.ensures)
+returns-in-Refused c =
+    kind_known (kind_added c.args.answer c.args.status c.args.count) _ c.if-answer-ne0.false c.in-Refused.is
+    (ends c.args.status c.args.count _ c.last-in-Refused.ensures c.stop-in-Refused.ensures)
 
 pub returns-in-Input : goal.returns-in-Input
 unfolding one_after
-returns-in-Input c = 
-    let goes_on : {text : Text} (line : ℕ → List ℕ) → text ≡ text_of (line c.wrapping_add_u64-number.result)
-    → record { text = text; status = c.args.status; count = c.wrapping_add_u64-number.result; more = true }
-    ≡ next_added c.args.status c.args.count (line (one_after c.args.count)) =
-        λ line e. let number = c.wrapping_add_u64-number.ensures in
-    λ i. record { text = (e ∙ ap (λ (k : ℕ). text_of (line k)) number) i; status = c.args.status; count = number i; more = true } in
-    let read = c.read-1.given in
+returns-in-Input c =
     let a = c.args.answer in
-    kind_known (kind_added _ _ _) _ c.if-answer-ne0.false read.1 (goes_on (λ k. line_text k input read.0.0 read.0.1.0 a.verdict a.open_count) c.line-text.ensures)
+    kind_known (kind_added a c.args.status c.args.count) _ c.if-answer-ne0.false c.in-Input.is
+    (goes_on c.args.status c.args.count _ c.wrapping_add_u64-number.ensures.value
+    (λ k. line_text k input c.in-Input.action c.in-Input.stamp a.verdict a.open_count) c.line-text.ensures)
 
 pub returns-in-Output : goal.returns-in-Output
 unfolding one_after
-returns-in-Output c = 
-    let goes_on : {text : Text} (line : ℕ → List ℕ) → text ≡ text_of (line c.wrapping_add_u64-number.result)
-    → record { text = text; status = c.args.status; count = c.wrapping_add_u64-number.result; more = true }
-    ≡ next_added c.args.status c.args.count (line (one_after c.args.count)) =
-        λ line e. let number = c.wrapping_add_u64-number.ensures in
-    λ i. record { text = (e ∙ ap (λ (k : ℕ). text_of (line k)) number) i; status = c.args.status; count = number i; more = true } in
-    let read = c.read-in-Output-1.given in
+returns-in-Output c =
     let a = c.args.answer in
-    kind_known (kind_added _ _ _) _ c.if-answer-ne0.false read.1 (goes_on (λ k. line_text k output read.0.0 read.0.1.0 a.verdict a.open_count) c.line-text-in-Output.ensures)
+    kind_known (kind_added a c.args.status c.args.count) _ c.if-answer-ne0.false c.in-Output.is
+    (goes_on c.args.status c.args.count _ c.wrapping_add_u64-number.ensures.value
+    (λ k. line_text k output c.in-Output.action c.in-Output.stamp a.verdict a.open_count) c.line-text-in-Output.ensures)
 
 pub returns-in-Gap : goal.returns-in-Gap
 unfolding one_after
-returns-in-Gap c = 
-    let goes_on : {text : Text} (line : ℕ → List ℕ) → text ≡ text_of (line c.wrapping_add_u64-number.result)
-    → record { text = text; status = c.args.status; count = c.wrapping_add_u64-number.result; more = true }
-    ≡ next_added c.args.status c.args.count (line (one_after c.args.count)) =
-        λ line e. let number = c.wrapping_add_u64-number.ensures in
-    λ i. record { text = (e ∙ ap (λ (k : ℕ). text_of (line k)) number) i; status = c.args.status; count = number i; more = true } in
-    let read = c.read-in-Gap-1.given in
-    kind_known (kind_added _ _ _) _ c.if-answer-ne0.false read.1 (goes_on (λ k. line_text k gap read.0.0 read.0.1.0 3 0) c.line-text-in-Gap.ensures)
+returns-in-Gap c =
+    kind_known (kind_added c.args.answer c.args.status c.args.count) _ c.if-answer-ne0.false c.in-Gap.is
+    (goes_on c.args.status c.args.count _ c.wrapping_add_u64-number.ensures.value
+    (λ k. line_text k gap c.in-Gap.lost c.in-Gap.stamp 3 0) c.line-text-in-Gap.ensures)
