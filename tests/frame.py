@@ -15,6 +15,10 @@ import traceback
 import logs
 
 TOP = logs.TOP
+sys.path.insert(1, os.path.join(TOP, 'tools'))
+import building  # noqa: E402
+
+KIT = 'a-kit logic 0123'
 PROGRAMS = 'listing', 'named_listing', 'tap_listing', 'show_why'
 LISTING, NAMES, PACK, UNPACK = TOOLS = [os.path.join(TOP, 'tools', name) for name in ('listing', 'names', 'pack', 'unpack')]
 SAMPLES = sorted(os.path.join(TOP, 'samples', name) for name in os.listdir(os.path.join(TOP, 'samples')) if name.endswith('.bin'))
@@ -149,7 +153,8 @@ def children(pid):
 # ---- a folder of its own
 
 class Folder:
-    """The tools and the programs in a folder whose name has a space and a byte that is no UTF-8, and an rt that only plays its part."""
+    """The tools and the programs in a folder whose name has a space and a byte that is no UTF-8, each in a crate of one line, and an rt that
+    only plays its part."""
 
     def __init__(self, folder):
         self.top = os.path.join(folder, os.fsdecode(b'a f\xf6lder'))
@@ -161,8 +166,12 @@ class Folder:
         self.said = os.path.join(self.top, 'said')
         self.rt = os.path.join(self.top, 'bin', 'rt')
         shutil.copytree(os.path.join(TOP, 'tools'), os.path.join(self.top, 'tools'))
-        for part in ('target/bin', 'logs', 'bin', 'no rt'):
+        for part in ('target/bin', 'logs', 'bin', 'no rt', *(f'crates/{name}/src' for name in ('below', *PROGRAMS))):
             os.makedirs(os.path.join(self.top, part))
+        file_of(self.top, 'crates.txt', ('below:\n' + ''.join(f'{name}: below libc\n' for name in PROGRAMS)).encode())
+        file_of(os.path.join(self.top, 'crates', 'below', 'src'), 'lib.rt', b'a library\n')
+        for name in PROGRAMS:
+            file_of(os.path.join(self.top, 'crates', name, 'src'), 'main.rt', b'a program\n')
         os.symlink(sys.executable, os.path.join(self.top, 'no rt', 'python3'))
         for name in ('env', 'grep', 'readlink', 'sh', 'sort'):
             os.symlink(shutil.which(name), os.path.join(self.top, 'no rt', name))
@@ -170,16 +179,32 @@ class Folder:
         self.play()
 
     def build(self):
+        """The programs, as they are where nothing has changed since they were proved and built."""
+        building.TOP = self.top
         for name in PROGRAMS:
-            shutil.copy(os.path.join(TOP, 'target', 'bin', name), os.path.join(self.top, 'target', 'bin', name))
+            shutil.copy(os.path.join(TOP, 'target', 'bin', name), building.path(name))
+            file_of(os.path.dirname(self.program), f'{name}.made', building.mark_of(name, building.sum_of([name], KIT)))
 
-    def play(self, lines=(), status=0, more=':', doc=None):
-        """What rt check says, its status, and what else it does. It reads all of its standard input, which must not be the
-        records."""
+    def change(self, crate='below'):
+        """From here on the programs over this crate are to be proved and built again."""
+        with open(os.path.join(self.top, 'crates', crate, 'src', 'lib.rt' if crate == 'below' else 'main.rt'), 'ab') as source:
+            source.write(b'one line more\n')
+
+    @property
+    def asking(self):
+        """What notes that rt run was run, and where."""
+        return f'echo "$* ${{PWD##*/}}" >>{shlex.quote(self.asked)}'
+
+    def play(self, lines=(), status=0, more=':', doc=None, version=None):
+        """What rt run says, its status, and what else it does: where that is 0 it builds the program, and ends with the status of its run. It
+        reads all of its standard input, which must not be the records."""
         with open(self.said, 'w', encoding='utf-8') as said:
             said.writelines(line + '\n' for line in lines)
+        built = 'mkdir -p out && cp {}/"${{PWD##*/}}" out/ && echo "rt: running out/${{PWD##*/}}; to give it other input, run that file yourself"'
+        built = built.format(shlex.quote(os.path.join(TOP, 'target', 'bin'))) + '; echo "rt: running out/other; end 0"; exit 7'
         script_of(self.rt, 'case $1 in', f'doc) {doc or "exec " + shlex.quote(shutil.which("rt")) + " doc"} ;;',
-                  f'check) cat >/dev/null; cat {shlex.quote(self.said)}; {more}; exit {status} ;;', 'esac')
+                  f'version) {version or f"echo {KIT}"} ;;',
+                  f'run) cat >/dev/null; cat {shlex.quote(self.said)}; {more}; {f"exit {status}" if status else built} ;;', 'esac')
 
     def hurry(self):
         """From here on the tools lose their patience after a second."""
@@ -195,12 +220,12 @@ class Folder:
         return env
 
     def times_asked(self, program='listing'):
-        """How often rt check was run since the last question, and for nothing but this program."""
+        """How often rt run was run since the last question, and for nothing but this program."""
         if not os.path.exists(self.asked):
             return 0
         asked = contents(self.asked).split(b'\n')[:-1]
         os.remove(self.asked)
-        same('what rt is asked', set(asked), {b'check ' + program.encode()})
+        same('what rt is asked', set(asked), {b'run ' + program.encode()})
         return len(asked)
 
     def run(self, *words, rt=True, data=b'', listing=None, env=None):

@@ -272,10 +272,12 @@ def obeyed_arguments(folder):
             plain(f'{words}', said, lines, None)
     same('a printable name', run([UNPACK, 'h\u00e9 \u4e16'])[2], 'unpack: h\u00e9 \u4e16: No such file or directory\n')
     said = '\x1b[2J\u009b31m\u202e'
-    made.play([f'rt: meaning {said} proved', f'rt: 1 not proved {said}'], 1)
+    made.play([f'crate meaning{said}: modules loaded=1 checked=1', f'crate meaning: modules loaded=1 checked=1 {said}', f'logic=proved {said}',
+               f'rt: waiting for {said}', f'rt: 1 not proved {said}'], 1)
+    made.change()
     status, out, told = made.run(data=FORM)
-    same('rt check fails', (status, out), (2, b''))
-    plain('rt check fails', told, 6, None)
+    same('rt run fails', (status, out), (2, b''))
+    plain('rt run fails', told, 9, None)
     made.play(doc=f"printf '%s\\n' {shlex.quote(said)}")
     plain('rt doc', made.run(data=FORM)[2])
 
@@ -284,14 +286,15 @@ def obeyed_arguments(folder):
 
 @contextlib.contextmanager
 def building(made, first=':'):
-    """A tool whose rt check has started two processes and waits for them, as rt does; and the numbers of the three, rt's first. What the two
+    """A tool whose rt run has started two processes and waits for them, as rt does; and the numbers of the three, rt's first. What the two
     do `first` is given. None of them is left."""
     path = os.path.join(made.top, 'numbers')
     mine = f'echo $$ >>{shlex.quote(path)}'
     made.play(more=f"{mine}; for i in 1 2; do sh -c {shlex.quote(f'{first}; {mine}; exec sleep 600')} & done; wait")
+    made.change()
     try:
         with listing_nothing(made) as tool:
-            comes_true('rt check has started two processes', lambda: len(lines_of(path)) == 3)
+            comes_true('rt run has started two processes', lambda: len(lines_of(path)) == 3)
             yield tool, [int(line) for line in lines_of(path)]
     finally:
         for line in lines_of(path):
@@ -305,7 +308,7 @@ def listing_nothing(made):
 
 
 def signals_while_building(folder):
-    """A signal ends all that a check has started, and the lock is free."""
+    """A signal ends all that a build has started, and the lock is free."""
     made = Folder(folder)
     for number in HEEDED:
         with building(made) as (tool, begun):
@@ -330,27 +333,32 @@ def lock_outlives(folder):
     with building(made) as (first, begun):
         first.kill()
         first.wait(SHORT)
-        made.play(more=f'echo "$*" >>{shlex.quote(made.asked)}')
+        made.play(more=made.asking)
         with listing_nothing(made) as second:
             for pid in begun[:2]:
                 os.kill(pid, signal.SIGKILL)
             all_gone('rt and one more', begun[:2])
             same('what is said', some_line(second.stderr), 'listing: waiting for another tools/listing, which is proving and building\n')
             time.sleep(.3)
-            same('rt check beside the last of the first', made.times_asked(), 0)
+            same('rt run beside the last of the first', made.times_asked(), 0)
             os.kill(begun[2], signal.SIGKILL)
             same('the status', second.wait(SHORT), 1)
-            same('rt check', made.times_asked(), 1)
+            same('rt run', made.times_asked(), 1)
 
 
 def one_build_at_a_time(folder):
     made = Folder(folder)
     busy, overlaps = (shlex.quote(os.path.join(made.top, name)) for name in ('busy', 'overlaps'))
-    made.play(more=f'mkdir {busy} || echo >>{overlaps}; sleep .3; rmdir {busy}')
-    with contextlib.ExitStack() as all_of_them:
-        tools = [all_of_them.enter_context(listing_nothing(made)) for _ in range(4)]
-        same('their statuses', [tool.wait(SHORT) for tool in tools], [1] * 4)
-    same('checks at the same time', lines_of(os.path.join(made.top, 'overlaps')), [])
+    work = f'mkdir {busy} || echo >>{overlaps}; sleep .3; rmdir {busy}; {made.asking}'
+    # what the first has built the others find; of a build that fails nothing is there, and each has its own turn
+    for status, wanted, builds in ((0, 1, 1), (1, 2, 4)):
+        made.play(more=work, status=status)
+        made.change()
+        with contextlib.ExitStack() as all_of_them:
+            tools = [all_of_them.enter_context(listing_nothing(made)) for _ in range(4)]
+            same('their statuses', [tool.wait(SHORT) for tool in tools], [wanted] * 4)
+        same('builds at the same time', lines_of(os.path.join(made.top, 'overlaps')), [])
+        same('builds', made.times_asked(), builds)
 
 
 def signals_while_listing(folder):
@@ -384,7 +392,7 @@ def signals_while_listing(folder):
 
 # ---- an odd environment
 
-LOADER = os.path.join('on', os.uname().machine, 'toolchain', 'lib', 'ld-linux-x86-64.so.2')
+LOADER = os.path.join('toolchain', 'lib', 'ld-linux-x86-64.so.2')
 
 
 def no_kit(folder):
@@ -397,8 +405,8 @@ def no_kit(folder):
             path = os.path.join(here, place, name)
             os.makedirs(os.path.dirname(path))
             script_of(path, f'echo tricked >>{shlex.quote(tricked)}; echo end 0')
-    for doc, told in (('exit 3', 'status 3'), (':', "''"), ('echo kit/docs/START.md', "'kit/docs/START.md'"),
-                      (f'echo {shlex.quote(here)}/kit/docs/START.md; exit 3', 'status 3')):
+    for doc, told in (('exit 3', 'status 3'), (':', "''"), ('echo kit/START-HERE.md', "'kit/START-HERE.md'"),
+                      (f'echo {shlex.quote(here)}/kit/START-HERE.md; exit 3', 'status 3')):
         made.play(doc=doc)
         for words in ([], ['--command']):
             status, out, said = run([made.listing] + words, FORM + END_RECORD, env=made.environment(), cwd=here)
@@ -409,18 +417,24 @@ def no_kit(folder):
         status, out, said = run(['sh', '-c', 'top=$1 build=$2; . "$top/tests/x86.sh"; echo "$tools"', 'sh', TOP, folder],
                                 env=dict(made.environment(), C_BY_KIT='1'), cwd=here)
         same(f'x86.sh, rt doc: {doc}', (status, out), (2, b''))
+    # nor where it does not tell which kit it is, of which a program is made too
+    made.play(version='exit 3')
+    status, out, said = made.run(data=FORM + END_RECORD)
+    same('rt version: status, output', (status, out), (2, b''))
+    message('rt version', said, 'rt version', 'status 3')
 
 
 def relative_path(folder):
     """An rt that the PATH has by a relative name is found from the current folder, as a shell finds it, and is run."""
     made = Folder(folder)
-    made.play(more=f'echo "$*" >>{shlex.quote(made.asked)}')
+    made.play(more=made.asking)
+    made.change()
     here = os.path.join(folder, 'here')
     os.makedirs(os.path.join(here, 'own'))
     os.symlink(made.rt, os.path.join(here, 'own', 'rt'))
     env = dict(made.environment(), PATH='own:' + os.environ['PATH'])
     same('the status', run([made.listing], FORM + END_RECORD, env=env, cwd=here)[0], 0)
-    same('rt check', made.times_asked(), 1)
+    same('rt run', made.times_asked(), 1)
 
 
 def handed_on(folder):
@@ -430,6 +444,7 @@ def handed_on(folder):
     env = dict(os.environ, QEMU_STRACE='1', QEMU_LD_PREFIX='/nowhere', CDPATH=folder, QEMULATOR='kept', KEPT='too')
     show = f'env | grep -E "^(QEMU|CDPATH|KEPT)" | sort >>{shlex.quote(seen)}'
     made.play(more=show)
+    made.change()
     same('the status', made.run(data=FORM + END_RECORD, env=env)[0], 0)
     script_of(made.program, show, 'echo end 0')
     same('status and output', made.run(rt=False, env=env)[:2], (0, b'end 0\n'))

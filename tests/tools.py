@@ -9,6 +9,7 @@ import random
 import re
 import resource
 import shlex
+import shutil
 import signal
 import subprocess
 import sys
@@ -18,8 +19,9 @@ import time
 sys.dont_write_bytecode = True
 import logs  # noqa: E402
 import rules  # noqa: E402
-from frame import (CARD, CARD_TEXT, LISTING, MARK, NAMES, PACK, PATIENCE, RELEASE, SAMPLES, SHORT, SITE, SWITCH, TEXT, TOP, UNPACK, Folder,  # noqa: E402
-                   children, contents, file_of, holds, is_gone, message, run, run_parts, same, some_bytes, some_line, started)
+from frame import (CARD, CARD_TEXT, KIT, LISTING, MARK, NAMES, PACK, PATIENCE, PROGRAMS, RELEASE, SAMPLES, SHORT, SITE, SWITCH, TEXT, TOP, UNPACK,  # noqa: E402
+                   Folder, building, children, contents, file_of, holds, is_gone, lines_of, message, run, run_parts, same, script_of, some_bytes,
+                   some_line, started)
 from logs import B, LONG, LONG_CARD, card_at_limit  # noqa: E402
 from rules import END, END_RECORD, GAP, INPUT, LIMIT, OUTPUT, TAP_END, TURN, pack_record, pack_tap  # noqa: E402
 
@@ -200,58 +202,114 @@ def leaves_input(words, env, data, behind, last):
     same(f'what is left in the pipe after {last}', left, behind)
 
 
-UNCHANGED = ['rt: meaning proved (unchanged since it was last proved)', 'rt: listing proved (unchanged since it was last proved)',
-             'rt: ok, 14 crates proved']
-PROVED = ['library fields: modules loaded=48 checked=0', 'rt: meaning proved (2 s)', UNCHANGED[1], 'rt: listing proved (8 s)', UNCHANGED[2]]
+# what rt says where its own build is still the one of these sources, and where two crates are proved
+UNCHANGED = ['rt: nothing has changed since the last proved build, by out/listing.stamp, so nothing is checked now']
+PROVED = ['logic=proved functions=1 of no crate', 'rt: chose --jobs 2 for meaning', 'fn meaning::one: proved', 'library fields: modules loaded=48 checked=0',
+          'crate meaning: modules loaded=0 checked=40', 'axioms libc: none reached of the 128 declared', 'logic=proved functions=1 native=nat',
+          'rt: waiting for another rt to finish in crates/listing', 'rt: chose --jobs 2 for listing', 'fn listing::main: proved',
+          'crate other: modules loaded=9 checked=1', 'logic=not-proved', 'crate listing: modules loaded=0 checked=220',
+          'logic=proved functions=7 axioms=8', 'logic=proved functions=1 of no crate', 'linked target=x86_64-unknown-linux-gnu']
+TOLD = 'meaning proved\nrt: waiting for another rt to finish in crates/listing\nlisting proved\n'
+
+
+def changed_sources(made):
+    """What a program is built again for, and what it is not: whether, a name, and a function that changes it."""
+    def add(*names):
+        path = os.path.join(made.top, *names)
+        os.makedirs(os.path.dirname(path), exist_ok=True)
+        with open(path, 'ab') as file:
+            file.write(b'# one line more\n')
+
+    def resting_on(kit):
+        path = os.path.join(made.top, 'crates.txt')
+        file_of(made.top, 'crates.txt', contents(path).replace(b'listing: below libc', b'listing: below libc ' + kit))
+
+    def one_byte_more():
+        with open(made.program, 'ab') as program:
+            program.write(b' ')
+
+    yield True, 'its own source', lambda: made.change('listing')
+    yield True, 'the source of a crate below', made.change
+    yield True, 'a file more', lambda: add('crates', 'below', 'src', 'more.rt')
+    yield True, 'a definition', lambda: add('crates', 'below', 'specs', 'Lib.antt')
+    yield True, 'a proof', lambda: add('crates', 'listing', 'proofs', 'main', 'Answers.antt')
+    yield True, 'a file less', lambda: os.remove(os.path.join(made.top, 'crates', 'below', 'src', 'more.rt'))
+    yield True, 'a library of the kit more', lambda: resting_on(b'io')
+    yield True, 'another kit', lambda: made.play(UNCHANGED, more=made.asking, version='echo another-kit')
+    yield True, 'the kit as it was', lambda: made.play(UNCHANGED, more=made.asking)
+    yield True, 'the program itself', one_byte_more
+    yield True, 'no mark', lambda: os.remove(made.program + '.made')
+    yield False, 'a comment in crates.txt', lambda: add('crates.txt')
+    yield False, 'another program', lambda: made.change('show_why')
+    yield False, 'what no program is made from', lambda: add('crates', 'listing', 'stdout')
 
 
 def listing_builds(folder):
-    """Arguments first; then rt check, each time and heard of only where something is proved; a log only where it fails."""
+    """Arguments first; then rt run where something has changed, heard of only where something is proved; a log only where it fails."""
     made = Folder(folder)
     data = contents(SAMPLES[0])
     want = ('\n'.join(rules.listing(data)[0]) + '\n').encode()
-    asked = f'echo "$*" >>{shlex.quote(made.asked)}'
-    build = f'{asked}; cp {shlex.quote(built("listing"))} {shlex.quote(made.program)}'
-    made.play(UNCHANGED, more=asked)
+    made.play(UNCHANGED, more=made.asking)
+    made.change()
     for words in (['--nonsense'], ['a', 'b'], ['--command', 'a'], ['-x'], ['--tap=5'], ['a', '--', '-h']):
         status, out, said = made.run(*words)
-        same(f'{words}: status, output, rt check', (status, out, made.times_asked()), (2, b'', 0))
+        same(f'{words}: status, output, rt run', (status, out, made.times_asked()), (2, b'', 0))
         message(str(words), said, 'usage: tools/listing [FILE]')
     for words, what in ((['no such file'], 'no such file: No such file'), (['/'], '/: Is a directory'), ([''], 'No such file')):
         status, out, said = made.run(*words)
-        same(f'{words}: status, output, rt check', (status, out, made.times_asked()), (2, b'', 0))
+        same(f'{words}: status, output, rt run', (status, out, made.times_asked()), (2, b'', 0))
         message(str(words), said, what)
     for word in ('--help', '-h'):
         status, out, said = made.run(word)
         same(word, (status, said, out.startswith(b'usage: tools/listing [FILE]'), made.times_asked()), (0, '', True, 0))
     same('nothing to prove', made.run(data=data), (0, want, ''))
-    same('rt check', made.times_asked(), 1)
+    same('rt run', made.times_asked(), 1)
+    same('nothing to build', made.run(data=data), (0, want, ''))
+    same('rt run where nothing has changed', made.times_asked(), 0)
+    for is_built, what, change in changed_sources(made):
+        change()
+        same(f'{what}: the listing, twice', [made.run(data=data) for _ in range(2)], [(0, want, '')] * 2)
+        same(f'{what}: rt run', made.times_asked(), int(is_built))
     link = os.path.join(folder, 'list it')
     os.symlink(made.listing, link)
     again = os.path.join(folder, 'again')
     os.symlink('list it', again)
     same('through a symbolic link', made.run(listing=link, data=data), (0, want, ''))
     same('through two', made.run(SAMPLES[0], listing=again), (0, want, ''))
-    same('rt check', made.times_asked(), 2)
+    same('rt run', made.times_asked(), 0)
     status, out, said = made.run('--command')
     same('the command', shlex.split(os.fsdecode(out))[-1], made.program)
     same('the command, run', run(shlex.split(os.fsdecode(out)), data)[:2], (0, want))
-    made.play(PROVED, more=build)
+    made.play(PROVED, more=made.asking)
     for text in ('the sources have changed', 'proving and building the program first, which takes some minutes'):
+        made.change()
         status, out, said = made.run(data=data)
         same('the listing of a program built anew', (status, out), (0, want))
-        message('the program is built', said, text, 'rt: meaning proved (2 s)\nrt: listing proved (8 s)\n')
-        holds(f'too much is said: {said!r}', 'unchanged' not in said and 'rt: ok' not in said and 'library' not in said)
+        message('the program is built', said, text, TOLD)
+        holds(f'too much is said: {said!r}', said.count('\n') == 4 and 'library' not in said and 'other proved' not in said)
         os.remove(made.program)
+    same('rt run', made.times_asked(), 2)
     same('logs left behind', os.listdir(made.logs), [])
-    made.play(['rt: session NOT PROVED (exit 1, 3 s)', 'rt: 1 not proved: session'], 1)
+    # a file that is changed while rt is at work: it is not known which text was built, so that it is built again
+    made.play(more=f'{made.asking}; echo >>../below/src/lib.rt')
+    same('changed while it is built', [made.run(data=data)[:2] for _ in range(2)], [(0, want)] * 2)
+    same('rt run', made.times_asked(), 2)
+    made.play(['fn session::one: not proved', 'rt: 1 not proved: session'], 1)
     made.build()
+    same('what is built does not need it', made.run(data=data), (0, want, ''))
+    made.change()
     status, out, said = made.run(data=data)
-    same('status and output where rt check fails', (status, out), (2, b''))
+    same('status and output where rt run fails', (status, out), (2, b''))
     logs = os.listdir(made.logs)
     same('the number of logs', len(logs), 1)
-    message('rt check fails', said, 'session NOT PROVED', 'status 1', logs[0], 'a f\\xf6lder', 'not UTF-8')
+    message('rt run fails', said, 'session::one: not proved', 'status 1', logs[0], 'a f\\xf6lder', 'not UTF-8')
     same('the log', contents(os.path.join(made.logs, logs[0])), contents(made.said))
+    # status 0 alone is no build
+    script_of(made.rt, 'case $1 in', f'version) echo {KIT} ;;', 'run) echo nothing was built ;;', 'esac')
+    status, out, said = made.run(data=data)
+    same('status and output where rt run says nothing', (status, out), (2, b''))
+    message('rt run says nothing', said, 'status 0', 'nothing was built')
+    made.build()
     # without rt a built program runs as it is, if this machine runs x86-64 programs without the kit
     try:
         runs = run([made.program], data)[:2] == (0, want)
@@ -265,8 +323,9 @@ def listing_builds(folder):
     same('without rt and program', (status, out), (2, b''))
     message('without rt and program', said, 'no rt on the PATH')
     # a program that cannot even start
-    open(made.program, 'wb').close()
     made.play(UNCHANGED)
+    open(made.program, 'wb').close()
+    file_of(os.path.dirname(made.program), 'listing.made', building.mark_of('listing', building.sum_of(['listing'], KIT)))
     status, out, said = made.run(data=data)
     same('a program that cannot start', (status, out), (2, b''))
     message('a program that cannot start', said, 'listing: ')
@@ -312,14 +371,105 @@ def listing_names(folder):
         same('a log that cannot be read', (status, out.split(b'\n')[1:], said), (1, [b'stop 0 7', b''], told))
 
 
+def gate_takes(folder):
+    """.ci/take, by which the gate gives tools/listing the programs that rt ci has built: those of the sources that were there before it."""
+    made = Folder(folder)
+    made.play(more=made.asking)
+    data = contents(SAMPLES[0])
+    want = ('\n'.join(rules.listing(data)[0]) + '\n').encode()
+    os.makedirs(os.path.join(made.top, '.ci'))
+    take = os.path.join(made.top, '.ci', 'take')
+    shutil.copy(os.path.join(TOP, '.ci', 'take'), take)
+    env = made.environment()
+
+    def built(name, by=TOP):
+        out = os.path.join(made.top, 'crates', name, 'out')
+        os.makedirs(out, exist_ok=True)
+        shutil.copy(os.path.join(by, 'target', 'bin', name), out)
+
+    shutil.rmtree(os.path.join(made.top, 'target'))
+    for change in (lambda: None, made.change, lambda: made.change('show_why'), lambda: file_of(made.top, 'crates.txt', contents(
+            os.path.join(made.top, 'crates.txt')) + b'unused:\n')):
+        change()
+        status, total, said = run([take], env=env)
+        same('the sum', (status, len(total), said), (0, 65, ''))
+        total = total.decode().strip()
+        for name in PROGRAMS:
+            built(name)
+        told = f'take: {", ".join(sorted(PROGRAMS))}\n'.encode()
+        same('taken', run([take, total], env=env), (0, told, ''))
+        same('what is there', sorted(os.listdir(os.path.dirname(made.program))), sorted(name + end for name in PROGRAMS for end in ('', '.made')))
+        same('the listing', made.run(data=data), (0, want, ''))
+        same('with names', made.run(SWITCH, '--names', SITE, RELEASE), (0, NAMED_SWITCH, ''))
+        same('rt run', made.times_asked(), 0)
+    # another sum, sources changed meanwhile, another kit, a program that is not there, no rt
+    shutil.rmtree(os.path.join(made.top, 'target'))
+    made.change('show_why')
+    for words in ([total], ['x'], [total, total]):
+        status, out, said = run([take, *words], env=env)
+        same(f'{words}: status, output', (status, out), (1, b''))
+        message(str(words), said, 'was changed while rt ci ran')
+    total = run([take], env=env)[1].decode().strip()
+    made.play(version='echo another-kit')
+    same('another kit', run([take, total], env=env)[:2], (1, b''))
+    made.play(version='exit 3')
+    status, out, said = run([take], env=env)
+    same('no kit', (status, out), (1, b''))
+    message('no kit', said, 'rt version', 'status 3')
+    same('no rt', run([take], env=made.environment(rt=False))[:2], (1, b''))
+    made.play(more=made.asking)
+    os.remove(os.path.join(made.top, 'crates', 'tap_listing', 'out', 'tap_listing'))
+    status, out, said = run([take, total], env=env)
+    same('a program is not there', (status, out), (1, b''))
+    message('a program is not there', said, 'tap_listing')
+    same('nothing half written', [name for name in os.listdir(os.path.dirname(made.program)) if name.endswith('.new')], [])
+    os.remove(os.path.join(made.top, 'crates.txt'))
+    status, out, said = run([take], env=env)
+    same('no crates', (status, out), (1, b''))
+    message('no crates', said, 'crates.txt')
+
+
+def archive(folder):
+    """tools/archive: what `rt lib` makes of stretch_c, under its name, and nothing where that fails."""
+    top = os.path.join(folder, 'a folder')
+    for part in ('tools', 'bin', 'crates/stretch_c', 'elsewhere/crates/stretch_c'):
+        os.makedirs(os.path.join(top, part))
+    tool = os.path.join(top, 'tools', 'archive')
+    shutil.copy(os.path.join(TOP, 'tools', 'archive'), tool)
+    made, asked = os.path.join(top, 'target', 'staticlib', 'libstretch.a'), os.path.join(top, 'asked')
+    env = dict(os.environ, PATH=os.path.join(top, 'bin') + ':' + os.environ['PATH'], CDPATH=os.path.join(top, 'elsewhere'))
+
+    def rt(*lines):
+        script_of(os.path.join(top, 'bin', 'rt'), f'echo "$*:$PWD" >>{shlex.quote(asked)}', *lines)
+
+    rt('exit 1')
+    same('it is not proved', (run([tool], env=env, cwd='/')[0] != 0, os.path.exists(made)), (True, False))
+    rt('exit 0')
+    same('it is not there', (run([tool], env=env, cwd='/')[0] != 0, os.path.exists(made)), (True, False))
+    for text in ('one', 'two'):
+        rt('mkdir -p out', f'printf {text} >out/libstretch_c.a')
+        same('the archive', (run([tool], env=env, cwd='/')[0], contents(made)), (0, text.encode()))
+    rt('printf three >out/libstretch_c.a', 'exit 1')
+    same('it is proved no more', (run([tool], env=env, cwd='/')[0] != 0, contents(made)), (True, b'two'))
+    same('what is left', os.listdir(os.path.dirname(made)), ['libstretch.a'])
+    same('what rt was asked', set(lines_of(asked)), {os.fsencode(f'lib:{os.path.realpath(top)}/crates/stretch_c')})
+    os.remove(asked)
+    for words, status in ((['-h'], 0), (['--help'], 0), (['x'], 2), (['-h', 'x'], 2)):
+        got, out, said = run([tool, *words], env=env)
+        same(f'{words}: status, messages', (got, said), (status, ''))
+        holds(f'{words}: {out}', out.startswith(b'usage: tools/archive') and b'target/staticlib/libstretch.a' in out)
+    holds('rt was asked', not os.path.exists(asked))
+
+
 def listing_names_lists(folder):
     """What a list's file may hold. A good packed list is one, whatever else it could be; then text; the program judges the rest."""
     made = Folder(folder)
-    made.play(UNCHANGED, more=f'echo "$*" >>{shlex.quote(made.asked)}')
+    made.play(UNCHANGED, more=made.asking)
     data = rules.pack_property(B) + pack_record(INPUT, 0, 100) + pack_record(INPUT, 35, 61) + END_RECORD
 
     def listed(site, release):
-        """Status, the two names or else the last line, messages, and how often rt check was run."""
+        """Status, the two names or else the last line, messages, and how often rt run was run, where something has changed."""
+        made.change()
         status, out, said = made.run('--names', site, release, data=data)
         lines = out.decode().split('\n')[:-1]
         told = [line.split()[3] for line in lines[1:-1]] if lines[-1:] == ['end 2'] else lines[-1:]
@@ -357,7 +507,7 @@ def listing_names_lists(folder):
                                 ('no such file', RELEASE, 'no such file: No such file'),
                                 (SITE, 'no such file', 'no such file: No such file'), ('/', RELEASE, '/: Is a directory')):
         status, told, said, asked = listed(site, release)
-        same(f'{what}: status, output, rt check', (status, told, asked), (2, [], 0))
+        same(f'{what}: status, output, rt run', (status, told, asked), (2, [], 0))
         message(what, said, what)
     path = file_of(folder, 'log', data)
     same('a list from standard input', made.run('--names', '/dev/stdin', both, path, data=b'?0 in\n')[1].split(b'\n')[1:3],
@@ -365,50 +515,53 @@ def listing_names_lists(folder):
 
 
 def listing_names_builds(folder):
-    """Arguments first, then rt check of the one program that is wanted."""
+    """Arguments first, then rt run of the one program that is wanted."""
     made = Folder(folder)
-    asked = f'echo "$*" >>{shlex.quote(made.asked)}'
-    made.play(UNCHANGED, more=asked)
+    made.play(UNCHANGED, more=made.asking)
+    made.change()
     for words in (['--names'], ['--names', SITE], ['--names', SITE, RELEASE, SWITCH, SWITCH], ['--names', SITE, '--tap'],
                   ['--names', SITE, RELEASE, '--names', SITE, RELEASE], ['--names', SITE, RELEASE, '--nonsense'],
                   ['--command', '--names', SITE, RELEASE]):
         status, out, said = made.run(*words)
-        same(f'{words}: status, output, rt check', (status, out, made.times_asked()), (2, b'', 0))
+        same(f'{words}: status, output, rt run', (status, out, made.times_asked()), (2, b'', 0))
         message(str(words), said, 'usage: tools/listing [FILE]', 'tools/listing --names SITE RELEASE [FILE]')
     for log in ('no such file', '/'):
         status, out, said = made.run('--names', SITE, RELEASE, log)
-        same(f'{log}: status, output, rt check', (status, out, made.times_asked()), (2, b'', 0))
+        same(f'{log}: status, output, rt run', (status, out, made.times_asked()), (2, b'', 0))
         message(log, said, log)
     same('the file first', made.run(SWITCH, '--names', SITE, RELEASE), (0, NAMED_SWITCH, ''))
-    same('rt check', made.times_asked('named_listing'), 1)
+    same('rt run', made.times_asked('named_listing'), 1)
     builds_one(made, ['--names', SITE, RELEASE, SWITCH], NAMED_SWITCH, made.named_program)
-
-
-def built(name):
-    return os.path.join(TOP, 'target', 'bin', name)
 
 
 def builds_one(made, words, want, program):
     """A sample that needs this program and no other, and the first program without it."""
     name = os.path.basename(program)
-    asked = f'echo "$*" >>{shlex.quote(made.asked)}'
+    made.build()
+    made.play(UNCHANGED, more=made.asking)
+    same(f'the sample by {name}, where nothing has changed', made.run(*words), (0, want, ''))
+    same('rt run', made.times_asked(name), 0)
     os.remove(made.program)
+    made.change()
     same(f'the sample by {name}', made.run(*words), (0, want, ''))
-    same('rt check', made.times_asked(name), 1)
+    same('rt run', made.times_asked(name), 1)
     made.build()
     os.remove(program)
+    made.change()
     same(f'a sample without {name}', made.run(SWITCH)[0], 0)
-    same('rt check', made.times_asked(), 1)
-    made.play(PROVED, more=f'{asked}; cp {shlex.quote(built(name))} {shlex.quote(program)}')
+    same('rt run', made.times_asked(), 1)
+    made.play(PROVED, more=made.asking)
     for text in ('proving and building the program first, which takes some minutes', 'the sources have changed'):
+        made.change()
         status, out, said = made.run(*words)
         same('the listing of a program built anew', (status, out), (0, want))
-        message('the program is built', said, text, 'rt: meaning proved (2 s)\n')
-    same('rt check', made.times_asked(name), 2)
-    made.play(['rt: fields NOT PROVED (exit 1, 3 s)'], 1)
+        message('the program is built', said, text, TOLD)
+    same('rt run', made.times_asked(name), 2)
+    made.play(['fn fields::one: not proved'], 1)
+    made.change()
     status, out, said = made.run(*words)
-    same('status and output where rt check fails', (status, out), (2, b''))
-    message('rt check fails', said, 'fields NOT PROVED', 'status 1')
+    same('status and output where rt run fails', (status, out), (2, b''))
+    message('rt run fails', said, 'fields::one: not proved', 'status 1')
     os.remove(program)
     status, out, said = made.run(*words, rt=False)
     same('without rt and program', (status, out), (2, b''))
@@ -466,7 +619,7 @@ end 10
 
 
 def listing_tap(folder):
-    """The card's sample in full, also with names and without --tap by way of its text; arguments first, then rt check."""
+    """The card's sample in full, also with names and without --tap by way of its text; arguments first, then rt run."""
     made = Folder(folder)
     card = contents(CARD)
     same('the sample of the card', made.run('--tap', CARD), (0, CARD_LISTING, ''))
@@ -479,20 +632,22 @@ def listing_tap(folder):
          ['3 I 0 switch 4294960000 clear 1', '4 O 0 acknowledged 4295050000 clear 0', '5 O 2 old-tile 4295050400 certain 0'])
     status, out, said = made.run('--tap', '/proc/self/mem')
     same('a log that cannot be read', (status, out.split(b'\n')[1:], said), (1, [b'stop 0 7', b''], ''))
-    made.play(UNCHANGED, more=f'echo "$*" >>{shlex.quote(made.asked)}')
+    made.play(UNCHANGED, more=made.asking)
+    made.change()
     for words in (['--tap', '--nonsense'], ['--tap', CARD, CARD], ['--tap', '--names', SITE, RELEASE],
                   ['--tap', '--names', SITE, RELEASE, CARD], ['--names', SITE, RELEASE, '--tap'],
                   ['--names', '--tap', SITE, RELEASE], ['--tap', '--command', CARD]):
         status, out, said = made.run(*words)
-        same(f'{words}: status, output, rt check', (status, out, made.times_asked()), (2, b'', 0))
+        same(f'{words}: status, output, rt run', (status, out, made.times_asked()), (2, b'', 0))
         message(str(words), said, 'usage: tools/listing [FILE]', 'tools/listing --tap [FILE]')
     for log in ('no such file', '/'):
         status, out, said = made.run('--tap', log)
-        same(f'{log}: status, output, rt check', (status, out, made.times_asked()), (2, b'', 0))
+        same(f'{log}: status, output, rt run', (status, out, made.times_asked()), (2, b'', 0))
         message(log, said, log)
     same('the file first', made.run(CARD, '--tap'), (0, CARD_LISTING, ''))
-    same('rt check', made.times_asked('tap_listing'), 1)
+    same('rt run', made.times_asked('tap_listing'), 1)
     for given in (['--tap', '--command'], ['--command', '--tap']):
+        made.change()
         status, out, said = made.run(*given)
         words = shlex.split(os.fsdecode(out))
         same('the command', (status, words[-1], said, made.times_asked('tap_listing')), (0, made.tap_program, '', 1))
@@ -514,7 +669,7 @@ suspect 4
 
 
 def listing_why(folder):
-    """The samples, and what ends in a refusal, blind, or in nothing; lost output; arguments first, then rt check."""
+    """The samples, and what ends in a refusal, blind, or in nothing; lost output; arguments first, then rt run."""
     made = Folder(folder)
     same('a sample', made.run('--why', SWITCH), (0, SWITCH_WHY, ''))
     same('its bytes from standard input', made.run('--why', data=contents(SWITCH)), (0, SWITCH_WHY, ''))
@@ -534,15 +689,16 @@ def listing_why(folder):
         same(f'{text!r} and status {status}', (ended, out), (2, text.encode()))
         message(text, said, f'the program ended before the listing did (status {status})')
     made.build()
-    made.play(UNCHANGED, more=f'echo "$*" >>{shlex.quote(made.asked)}')
+    made.play(UNCHANGED, more=made.asking)
+    made.change()
     for words in (['--why', '--nonsense'], ['--why', CARD, CARD], ['--why', '--tap'], ['--tap', '--why'],
                   ['--why', '--names', SITE, RELEASE], ['--names', SITE, RELEASE, '--why'], ['--why', '--command', SWITCH]):
         status, out, said = made.run(*words)
-        same(f'{words}: status, output, rt check', (status, out, made.times_asked()), (2, b'', 0))
+        same(f'{words}: status, output, rt run', (status, out, made.times_asked()), (2, b'', 0))
         message(str(words), said, 'usage: tools/listing [FILE]', 'tools/listing --why [FILE]')
     for log in ('no such file', '/'):
         status, out, said = made.run('--why', log)
-        same(f'{log}: status, output, rt check', (status, out, made.times_asked()), (2, b'', 0))
+        same(f'{log}: status, output, rt run', (status, out, made.times_asked()), (2, b'', 0))
         message(log, said, log)
     status, out, said = made.run('--why', '--command')
     words = shlex.split(os.fsdecode(out))
@@ -931,7 +1087,7 @@ def demands_cited(folder):
     same('theorems that docs/PROMISES.md names and the demands do not hand on', sorted(told - handed), [])
 
 
-PARTS = [listing_status, listing_long, listing_lost_output, listing_slow_reader, listing_live, listing_leaves_input, listing_builds,
+PARTS = [listing_status, listing_long, listing_lost_output, listing_slow_reader, listing_live, listing_leaves_input, listing_builds, gate_takes, archive,
          listing_names, listing_names_lists, listing_names_builds, listing_names_live, listing_tap, listing_why, names_text,
          names_output, pack_output, pack_text, pack_follow, pack_lost, pack_card, unpack_back, readme, rules_cited,
          edits_cited, demands_cited]

@@ -2,8 +2,7 @@
 # checkout) and `build` (a folder of their own).
 #
 # On x86-64 the system's C compiler builds, and the programs run as they are. Elsewhere, or where C_BY_KIT is set, the kit's own
-# compiler and linker build for x86-64 and the programs run as rt runs its own: under the kit's loader and C library, and its
-# emulator where it has one.
+# compiler and linker build for x86-64 and the programs run under the kit's loader and C library, and an emulator where it has one.
 # shellcheck shell=sh disable=SC2154
 
 kit=''
@@ -15,9 +14,8 @@ if [ "$(uname -m)" != x86_64 ] || [ -n "${C_BY_KIT:-}" ] || ! command -v cc >/de
     /*) ;;
     *) echo "$0: rt doc says '$kit', which is no absolute path" >&2; exit 2 ;;
     esac
-    kit=$(dirname "$(dirname "$kit")")
-    own=$kit/on/$(uname -m)
-    tools=$own/toolchain
+    kit=$(dirname "$kit")
+    tools=$kit/toolchain
     emulator=$tools/bin/qemu-x86_64
     [ -x "$emulator" ] || emulator=''
     # as rt does: the emulator takes orders from the environment too
@@ -46,7 +44,7 @@ linked() { # COMPILER PROGRAM OBJECTS AND ARCHIVES...
     x86_program=$2
     shift 2
     if [ -n "$kit" ]; then
-        "$own/bin/rattle-link" --target x86_64-unknown-linux-gnu --toolchain "$tools" -o "$x86_program" "$@"
+        "$kit/bin/rattle-link" --target x86_64-unknown-linux-gnu --toolchain "$tools" -o "$x86_program" "$@"
     else
         "$x86_compiler" "$@" -o "$x86_program"
     fi

@@ -70,9 +70,20 @@ def contents(name):
         return file.read()
 
 
+@contextlib.contextmanager
+def reading():
+    """Where something of the sources cannot be read, it is told."""
+    try:
+        yield
+    except OSError as error:
+        raise Failed(f'{escaped(error.filename)}: {error.strerror}') from None
+
+
 def listed():
     """The crates of crates.txt: what stands before the colon, and what each rests on."""
-    lines = (line.partition('#')[0].partition(':') for line in os.fsdecode(contents(os.path.join(TOP, 'crates.txt'))).splitlines())
+    with reading():
+        text = os.fsdecode(contents(os.path.join(TOP, 'crates.txt')))
+    lines = (line.partition('#')[0].partition(':') for line in text.splitlines())
     return {head.split()[0]: (head.split(), rest.split()) for head, _, rest in lines if head.split()}
 
 
@@ -86,22 +97,16 @@ def files_of(crate):
 
 def sum_of(programs, kit):
     """A sum of all that these programs are made from: the kit, and for them and the crates below them what crates.txt says and the sources."""
-    try:
-        crates = listed()
-        named, left = set(), list(programs)
-        while left:
-            crate = left.pop()
-            if crate in crates and crate not in named:
-                named.add(crate)
-                left += crates[crate][1]
-        total = hashlib.sha256(repr((kit, sorted(programs))).encode('utf-8', 'surrogateescape'))
-        for crate in sorted(named):
-            total.update(repr((crate, crates[crate])).encode('utf-8', 'surrogateescape'))
-            for name in files_of(crate):
-                total.update(repr((os.path.relpath(name, TOP), contents(name))).encode('utf-8', 'surrogateescape'))
-    except OSError as error:
-        raise Failed(f'{escaped(error.filename)}: {error.strerror}') from None
-    return total.hexdigest()
+    crates, named, left = listed(), set(), list(programs)
+    while left:
+        crate = left.pop()
+        if crate in crates and crate not in named:
+            named.add(crate)
+            left += crates[crate][1]
+    parts = [(kit, sorted(programs)), *((crate, crates[crate]) for crate in sorted(named))]
+    with reading():
+        parts += ((os.path.relpath(name, TOP), contents(name)) for crate in sorted(named) for name in files_of(crate))
+    return hashlib.sha256(repr(parts).encode('utf-8', 'surrogateescape')).hexdigest()
 
 
 def mark_of(program, total):

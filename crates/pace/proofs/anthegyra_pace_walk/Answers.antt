@@ -30,7 +30,7 @@ loop-i-preserved c = (omega arith, one-taken _ _ _ _ c.walk-w.result c.walk-w.en
 
 pub returns : goal.returns
 returns c =
-    let done : c.loop-i.i ≡ c.args.times = le_antisymm c.loop-i.invariant.0 c.loop-i.test.false in
+    let done : c.loop-i.i ≡ c.args.times = le_antisymm c.loop-i.invariant.0 c.loop-i-test.false in
     c.loop-i.invariant.1
     ∙ ap (last_taken c.fresh-fresh.result.session c.args.trace.now c.args.budget) done
     ∙ ap (λ (r : Stepped). last_taken r.session c.args.trace.now c.args.budget c.args.times) c.fresh-fresh.ensures

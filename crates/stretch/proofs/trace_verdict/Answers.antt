@@ -16,7 +16,7 @@ pub returns-then-r-trace : goal.returns-then-r-trace
 returns-then-r-trace c =
     let m : Memory = fresh-memory c.args.p c.requires c.fresh-fresh.result c.fresh-fresh.ensures c.rows_of-rows.result c.rows_of-rows.ensures.0 in
     let means : record_in m ≡ record_of c.args.p (fresh_by c.args.p) =
-        fresh_means c.args.p c.requires c.fresh-fresh.result c.fresh-fresh.ensures c.rows_of-rows.result c.rows_of-rows.ensures.0
+    fresh_means c.args.p c.requires c.fresh-fresh.result c.fresh-fresh.ensures c.rows_of-rows.result c.rows_of-rows.ensures.0
     in
     c.refusal-then-r-trace.ensures ∙ sym (judged-behind c.args.p c.args.trace.now (record_in m) means _ c.records-r.ensures.walked c.in-End.is c.if-r-trace.true)
 
@@ -24,7 +24,7 @@ pub returns-in-Budget : goal.returns-in-Budget
 returns-in-Budget c =
     let m : Memory = fresh-memory c.args.p c.requires c.fresh-fresh.result c.fresh-fresh.ensures c.rows_of-rows.result c.rows_of-rows.ensures.0 in
     let means : record_in m ≡ record_of c.args.p (fresh_by c.args.p) =
-        fresh_means c.args.p c.requires c.fresh-fresh.result c.fresh-fresh.ensures c.rows_of-rows.result c.rows_of-rows.ensures.0
+    fresh_means c.args.p c.requires c.fresh-fresh.result c.fresh-fresh.ensures c.rows_of-rows.result c.rows_of-rows.ensures.0
     in
     c.refusal.ensures ∙ sym (judged_budget c.args.p c.args.trace.now (record_in m) means _ c.records-r.ensures.walked c.in-Budget.is)
 
@@ -32,7 +32,7 @@ pub returns-else-r-trace : goal.returns-else-r-trace
 returns-else-r-trace c =
     let m : Memory = fresh-memory c.args.p c.requires c.fresh-fresh.result c.fresh-fresh.ensures c.rows_of-rows.result c.rows_of-rows.ensures.0 in
     let means : record_in m ≡ record_of c.args.p (fresh_by c.args.p) =
-        fresh_means c.args.p c.requires c.fresh-fresh.result c.fresh-fresh.ensures c.rows_of-rows.result c.rows_of-rows.ensures.0
+    fresh_means c.args.p c.requires c.fresh-fresh.result c.fresh-fresh.ensures c.rows_of-rows.result c.rows_of-rows.ensures.0
     in
     ap (λ (v : ℕ). record { refusal = 0; verdict = v; count = c.records-r.result.taken }) c.verdict_of-verdict.ensures
     ∙ sym (judged-ended c.args.p c.args.trace.now (record_in m) means _ c.records-r.ensures.walked c.in-End.is c.if-r-trace.false)
@@ -41,6 +41,6 @@ pub returns-in-Refused : goal.returns-in-Refused
 returns-in-Refused c =
     let m : Memory = fresh-memory c.args.p c.requires c.fresh-fresh.result c.fresh-fresh.ensures c.rows_of-rows.result c.rows_of-rows.ensures.0 in
     let means : record_in m ≡ record_of c.args.p (fresh_by c.args.p) =
-        fresh_means c.args.p c.requires c.fresh-fresh.result c.fresh-fresh.ensures c.rows_of-rows.result c.rows_of-rows.ensures.0
+    fresh_means c.args.p c.requires c.fresh-fresh.result c.fresh-fresh.ensures c.rows_of-rows.result c.rows_of-rows.ensures.0
     in
     c.refusal-in-Refused.ensures ∙ sym (judged-refused c.args.p c.args.trace.now (record_in m) means _ c.records-r.ensures.walked _ c.in-Refused.is)
