@@ -1,0 +1,10 @@
+-- `show_why::stop` is safe: the line fits its room.
+use Rattle.std.proofs.Common.{◌≤◌, sym, subst}
+use Rattle.line_text.specs.declared.Text.{Text}
+use Rattle.line_text.specs.Text.{room}
+use Rattle.line_text.proofs.Held.{text_len}
+use Rattle.reason_text.proofs.Fits.{stop-alone-fits}
+use Rattle.show_why.proofs.stop.Goals as goal
+
+pub write-requires : goal.write-requires
+write-requires g c = subst (λ (t : Text). t.len ≤ room) (sym c.stop.ensures) (text_len _ (stop-alone-fits _))
