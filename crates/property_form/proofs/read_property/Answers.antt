@@ -26,58 +26,58 @@ returns-then-broken-ne0 c =
     c.if-broken-ne0.true c.none.ensures
 
 pub length_of-n-requires : goal.length_of-n-requires
-length_of-n-requires c = 
+length_of-n-requires c =
     let S : List ℕ =
-        c.args.s.now in
+    c.args.s.now in
     let unbroken : broken_of S ≡ 0 =
-        sym c.broken-broken.ensures ∙ c.if-broken-ne0.false in
+    sym c.broken-broken.ensures ∙ c.if-broken-ne0.false in
     omega (arith, whole S unbroken)
 
 pub returns-then-n-gt-MOST_ACTIONS : goal.returns-then-n-gt-MOST_ACTIONS
 unfolding property_read
-returns-then-n-gt-MOST_ACTIONS c = 
+returns-then-n-gt-MOST_ACTIONS c =
     let S : List ℕ =
-        c.args.s.now in
+    c.args.s.now in
     let unbroken : broken_of S ≡ 0 =
-        sym c.broken-broken.ensures ∙ c.if-broken-ne0.false in
+    sym c.broken-broken.ensures ∙ c.if-broken-ne0.false in
     let of-property : read_refusal S ≡ property_refusal (meant (property_read S)) =
-        refusal_split S ∙ ap (λ (x : ℕ). first_of x (property_refusal (meant (property_read S)))) unbroken in
+    refusal_split S ∙ ap (λ (x : ℕ). first_of x (property_refusal (meant (property_read S)))) unbroken in
     read-refused S 1 c.none-then-n-gt-MOST_ACTIONS.result
     (sym (of-property ∙ length-refused (property_read S) (above (length_read S) (omega arith))))
     (λ e. let z : ⊥ = omega arith in z) c.none-then-n-gt-MOST_ACTIONS.ensures
 
 pub fields_of-p-requires : goal.fields_of-p-requires
-fields_of-p-requires c = 
+fields_of-p-requires c =
     let S : List ℕ =
-        c.args.s.now in
+    c.args.s.now in
     let unbroken : broken_of S ≡ 0 =
-        sym c.broken-broken.ensures ∙ c.if-broken-ne0.false in
+    sym c.broken-broken.ensures ∙ c.if-broken-ne0.false in
     (c.length_of-n.ensures.0, omega arith, omega (arith, whole S unbroken))
 
 pub returns-then-refusal-ne0 : goal.returns-then-refusal-ne0
-returns-then-refusal-ne0 c = 
+returns-then-refusal-ne0 c =
     let S : List ℕ =
-        c.args.s.now in
+    c.args.s.now in
     let unbroken : broken_of S ≡ 0 =
-        sym c.broken-broken.ensures ∙ c.if-broken-ne0.false in
+    sym c.broken-broken.ensures ∙ c.if-broken-ne0.false in
     let of-property : read_refusal S ≡ property_refusal (meant (property_read S)) =
-        refusal_split S ∙ ap (λ (x : ℕ). first_of x (property_refusal (meant (property_read S)))) unbroken in
+    refusal_split S ∙ ap (λ (x : ℕ). first_of x (property_refusal (meant (property_read S)))) unbroken in
     let judged : c.refused-refusal.result ≡ read_refusal S =
-        c.refused-refusal.ensures
+    c.refused-refusal.ensures
     ∙ ap (λ p. property_refusal (meant p)) c.fields_of-p.ensures
     ∙ sym of-property in
     read-refused _ _ c.none-then-refusal-ne0.result judged c.if-refusal-ne0.true c.none-then-refusal-ne0.ensures
 
 pub returns : goal.returns
-returns c = 
+returns c =
     let S : List ℕ =
-        c.args.s.now in
+    c.args.s.now in
     let unbroken : broken_of S ≡ 0 =
-        sym c.broken-broken.ensures ∙ c.if-broken-ne0.false in
+    sym c.broken-broken.ensures ∙ c.if-broken-ne0.false in
     let of-property : read_refusal S ≡ property_refusal (meant (property_read S)) =
-        refusal_split S ∙ ap (λ (x : ℕ). first_of x (property_refusal (meant (property_read S)))) unbroken in
+    refusal_split S ∙ ap (λ (x : ℕ). first_of x (property_refusal (meant (property_read S)))) unbroken in
     let judged : c.refused-refusal.result ≡ read_refusal S =
-        c.refused-refusal.ensures
+    c.refused-refusal.ensures
     ∙ ap (λ p. property_refusal (meant p)) c.fields_of-p.ensures
     ∙ sym of-property in
     read_taken _ c.fields_of-p.result (sym judged ∙ c.if-refusal-ne0.false) c.fields_of-p.ensures

@@ -9,29 +9,29 @@ use Rattle.property_form.proofs.Answers.{refusal-read, taken_none, taken-all, wh
 use Rattle.property_form.proofs.taken_by.Goals as goal
 
 pub returns-then-r-ne0 : goal.returns-then-r-ne0
-returns-then-r-ne0 c = 
+returns-then-r-ne0 c =
     let refusal_is : c.read_property-r.result.refusal ≡ read_refusal c.args.s.now =
-        ap (λ r. r.refusal) c.read_property-r.ensures ∙ refusal-read c.args.s.now in
+    ap (λ r. r.refusal) c.read_property-r.ensures ∙ refusal-read c.args.s.now in
     taken_none _ (λ e. c.if-r-ne0.true (refusal_is ∙ e))
 
 pub length_of-n-requires : goal.length_of-n-requires
-length_of-n-requires c = 
+length_of-n-requires c =
     let refusal_is : c.read_property-r.result.refusal ≡ read_refusal c.args.s.now =
-        ap (λ r. r.refusal) c.read_property-r.ensures ∙ refusal-read c.args.s.now in
+    ap (λ r. r.refusal) c.read_property-r.ensures ∙ refusal-read c.args.s.now in
     let S : List ℕ =
-        c.args.s.now in
+    c.args.s.now in
     let unrefused : read_refusal S ≡ 0 =
-        sym refusal_is ∙ c.if-r-ne0.false in
+    sym refusal_is ∙ c.if-r-ne0.false in
     omega (arith, whole S (not-broken S unrefused))
 
 pub returns : goal.returns
-returns c = 
+returns c =
     let refusal_is : c.read_property-r.result.refusal ≡ read_refusal c.args.s.now =
-        ap (λ r. r.refusal) c.read_property-r.ensures ∙ refusal-read c.args.s.now in
+    ap (λ r. r.refusal) c.read_property-r.ensures ∙ refusal-read c.args.s.now in
     let S : List ℕ =
-        c.args.s.now in
+    c.args.s.now in
     let unrefused : read_refusal S ≡ 0 =
-        sym refusal_is ∙ c.if-r-ne0.false in
+    sym refusal_is ∙ c.if-r-ne0.false in
     c.size_of.ensures
     ∙ ap form_size c.length_of-n.ensures.0
     ∙ sym (taken-all _ unrefused)

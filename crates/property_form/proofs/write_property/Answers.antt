@@ -50,40 +50,40 @@ returns-then-refusal-ne0 c =
     )
 
 pub size_of-size-requires : goal.size_of-size-requires
-size_of-size-requires c = 
+size_of-size-requires c =
     let P : Property =
-        c.args.p in
+    c.args.p in
     let unrefused : property_refusal (meant P) ≡ 0 =
-        sym c.refused-refusal.ensures ∙ c.if-refusal-ne0.false in
+    sym c.refused-refusal.ensures ∙ c.if-refusal-ne0.false in
     omega (arith, taken_bounds P unrefused)
 
 pub returns-then-buf-size : goal.returns-then-buf-size
-returns-then-buf-size c = 
+returns-then-buf-size c =
     let P : Property =
-        c.args.p in
+    c.args.p in
     let B : List ℕ =
-        c.args.buf.now in
+    c.args.buf.now in
     let unrefused : property_refusal (meant P) ≡ 0 =
-        sym c.refused-refusal.ensures ∙ c.if-refusal-ne0.false in
+    sym c.refused-refusal.ensures ∙ c.if-refusal-ne0.false in
     let short = write_short (meant P) B unrefused (omega (arith, length_of_form P)) in (
       written-refused (meant P) B 9 (sym short) (λ e. let z : ⊥ = omega arith in z),
       left-refused (meant P) B (λ e. let z : ⊥ = omega arith in z),
     )
 
 pub bits_of-list-requires : goal.bits_of-list-requires
-bits_of-list-requires c = 
+bits_of-list-requires c =
     let P : Property =
-        c.args.p in
+    c.args.p in
     let unrefused : property_refusal (meant P) ≡ 0 =
-        sym c.refused-refusal.ensures ∙ c.if-refusal-ne0.false in
+    sym c.refused-refusal.ensures ∙ c.if-refusal-ne0.false in
     omega (arith, taken_bounds P unrefused)
 
 pub pack-requires : goal.pack-requires
-pack-requires c = 
+pack-requires c =
     let P : Property =
-        c.args.p in
+    c.args.p in
     let unrefused : property_refusal (meant P) ≡ 0 =
-        sym c.refused-refusal.ensures ∙ c.if-refusal-ne0.false in
+    sym c.refused-refusal.ensures ∙ c.if-refusal-ne0.false in
     let p = P in
     let l = c.bits_of-list in
     let t = taken_bounds p unrefused in (
@@ -93,13 +93,13 @@ pack-requires c =
     )
 
 pub returns : goal.returns
-returns c = 
+returns c =
     let P : Property =
-        c.args.p in
+    c.args.p in
     let B : List ℕ =
-        c.args.buf.now in
+    c.args.buf.now in
     let unrefused : property_refusal (meant P) ≡ 0 =
-        sym c.refused-refusal.ensures ∙ c.if-refusal-ne0.false in
+    sym c.refused-refusal.ensures ∙ c.if-refusal-ne0.false in
     let p = P in
     let buf = B in
     let k = c.size_of-size in

@@ -9,11 +9,11 @@ use Rattle.record_form.proofs.Writing.{record_bits, length_record_bits, Bits-rec
 use Rattle.record_form.proofs.put_record.Goals as goal
 
 pub pack-requires : goal.pack-requires
-pack-requires c = 
+pack-requires c =
     let bits_of : List ℕ =
-        record_bits c.args.kind c.args.action c.args.less in
+    record_bits c.args.kind c.args.action c.args.less in
     let is-filled : c.put_field-3.new.list ≡ bits_of =
-        filled _ _ _ c.put_field.new.list c.put_field-2.new.list c.put_field-3.new.list
+    filled _ _ _ c.put_field.new.list c.put_field-2.new.list c.put_field-3.new.list
     c.put_field.ensures c.put_field-2.ensures c.put_field-3.ensures
     ∙ ap₂ (λ (k a : ℕ). record_bits k a c.args.less) c.wide.ensures.0 c.wide-2.ensures.0 in
     let l : c.put_field-3.new.list ≡ bits_of = is-filled in
@@ -21,11 +21,11 @@ pack-requires c =
     (omega (arith, ap length l, n), omega arith, subst (λ (x : List ℕ). Bits (at x)) (sym l) (Bits-record _ _ _))
 
 pub returns : goal.returns
-returns c = 
+returns c =
     let bits_of : List ℕ =
-        record_bits c.args.kind c.args.action c.args.less in
+    record_bits c.args.kind c.args.action c.args.less in
     let is-filled : c.put_field-3.new.list ≡ bits_of =
-        filled _ _ _ c.put_field.new.list c.put_field-2.new.list c.put_field-3.new.list
+    filled _ _ _ c.put_field.new.list c.put_field-2.new.list c.put_field-3.new.list
     c.put_field.ensures c.put_field-2.ensures c.put_field-3.ensures
     ∙ ap₂ (λ (k a : ℕ). record_bits k a c.args.less) c.wide.ensures.0 c.wide-2.ensures.0 in
     c.pack.ensures

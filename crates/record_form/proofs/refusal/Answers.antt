@@ -1,11 +1,9 @@
 -- `record_form::refusal` meets its contract: each test adds what it rules out.
 use borrow.Author.Tests.{lt-ltb, le-ltb}
 use native.Mathlib.Omega.{arith}
-use mathlib.Core.Path.{◌≡◌, sym, ◌∙◌}
-use mathlib.Core.Bool.{false, not}
-use lib.Dec.{ltb, eqb}
+use mathlib.Core.Path.{sym, ◌∙◌}
 use Rattle.meaning.specs.Limits.{last_action}
-use Rattle.record_form.specs.Record.{broken, stamp_above, write_refusal}
+use Rattle.record_form.specs.Record.{write_refusal}
 use Rattle.record_form.proofs.Rules.{stamp_past, before_past, none_past}
 use Rattle.record_form.proofs.refusal.Goals as goal
 

@@ -1,9 +1,6 @@
 -- `record_form::write_record` meets its contract.
-use Prim.Native.Nat.{ℕ}
-use mathlib.Core.Path.{◌≡◌, sym, ◌∙◌}
-use lib.ListN.{length}
-use Rattle.record_form.specs.Record.{write_refusal}
-use Rattle.record_form.proofs.Writing.{Writable, is_writable, written-refused, written-form}
+use mathlib.Core.Path.{sym, ◌∙◌}
+use Rattle.record_form.proofs.Writing.{is_writable, written-refused, written-form}
 use Rattle.record_form.proofs.write_record.Goals as goal
 
 pub returns-then-number-ne0 : goal.returns-then-number-ne0

@@ -1,5 +1,5 @@
 -- `property_form::read::outputs` meets its contract. The loop's invariant: the first i places are read, the others stand.
-use Prim.Native.Nat.{ℕ, ◌-◌}
+use Prim.Native.Nat.{ℕ}
 use mathlib.Core.Path.{refl, ap, ap₂, ◌∙◌}
 use mathlib.Core.Bool.{Bool, false}
 use mathlib.Core.List.{List}

@@ -1,5 +1,4 @@
 -- `property_form::write::put_actions` meets its contract. The loop's invariant: the bits of the first i actions are put.
-use Prim.Native.Nat.{◌-◌}
 use mathlib.Core.Path.{refl, ap, ◌∙◌}
 use mathlib.Core.Bool.{false}
 use mathlib.Core.List.{[]}

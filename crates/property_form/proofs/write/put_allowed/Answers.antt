@@ -1,5 +1,5 @@
 -- `property_form::write::put_allowed` meets its contract. The loop's invariant: the first k bits are put.
-use Prim.Native.Nat.{ℕ, ◌+◌, ◌-◌}
+use Prim.Native.Nat.{ℕ, ◌+◌}
 use mathlib.Core.Path.{refl, sym, ap, ap₂, ◌∙◌}
 use mathlib.Core.List.{List}
 use native.Mathlib.Nat.{le_antisymm, zero-add}
