@@ -15,7 +15,7 @@ pub loop-i-init : goal.loop-i-init
 loop-i-init c = (search rules, λ k h. absurd (not-suc-le-zero h))
 
 pub returns-then-stray : goal.returns-then-stray
-returns-then-stray c = 
+returns-then-stray c =
     let looked : stray c.args.n (cut_at c.args.rows.now c.args.span c.args.j c.loop-i.i) ≡ c.stray.result =
         ap (stray c.args.n) (sym c.cut_at.ensures) ∙ sym c.stray.ensures in
     let a = c.args in
@@ -24,7 +24,7 @@ returns-then-stray c =
     (looked ∙ c.if-stray.true))
 
 pub loop-i-preserved : goal.loop-i-preserved
-loop-i-preserved c = 
+loop-i-preserved c =
     let looked : stray c.args.n (cut_at c.args.rows.now c.args.span c.args.j c.loop-i.i) ≡ c.stray.result =
         ap (stray c.args.n) (sym c.cut_at.ensures) ∙ sym c.stray.ensures in
     let a = c.args in
@@ -32,5 +32,6 @@ loop-i-preserved c =
     (omega arith, below_more (λ i. stray a.n (cut_at a.rows.now a.span a.j i) ≡ false) w.i w.invariant.1 (looked ∙ c.if-stray.false))
 
 pub returns : goal.returns
-returns c =     let a = c.args in
+returns c =
+    let a = c.args in
     sym (some_to-none a.span.count (λ i. stray a.n (cut_at a.rows.now a.span a.j i)) (λ i h. c.loop-i.invariant.1 i (omega arith)))

@@ -20,13 +20,13 @@ pub cut_at-requires : goal.cut_at-requires
 cut_at-requires c = (c.requires.0.room, c.requires.0.there, omega arith)
 
 pub moved-cut-requires : goal.moved-cut-requires
-moved-cut-requires c =     (c.requires.0.formed, c.requires.1, subst (Fits c.args.p) (sym c.cut_at.ensures) (c.requires.0.fits 0 (omega arith)))
+moved-cut-requires c = (c.requires.0.formed, c.requires.1, subst (Fits c.args.p) (sym c.cut_at.ensures) (c.requires.0.fits 0 (omega arith)))
 
 pub put_cut-requires : goal.put_cut-requires
 put_cut-requires c = (c.requires.0.room, c.requires.0.there, omega arith)
 
 pub word-held-requires : goal.word-held-requires
-word-held-requires c = 
+word-held-requires c =
     let mid-room : Room c.put_cut.new.rows c.args.span =
         let a = c.args in
     subst (λ (r : List (List ℕ)). Room r a.span) (sym c.put_cut.ensures)
@@ -34,7 +34,7 @@ word-held-requires c =
     let r = mid-room in (r, omega (arith, r.shared), omega arith)
 
 pub word-input-requires : goal.word-input-requires
-word-input-requires c = 
+word-input-requires c =
     let mid-room : Room c.put_cut.new.rows c.args.span =
         let a = c.args in
     subst (λ (r : List (List ℕ)). Room r a.span) (sym c.put_cut.ensures)
@@ -42,7 +42,7 @@ word-input-requires c =
     let r = mid-room in (r, r.shared, omega arith)
 
 pub loop-i-init : goal.loop-i-init
-loop-i-init c = 
+loop-i-init c =
     let mid-room : Room c.put_cut.new.rows c.args.span =
         let a = c.args in
     subst (λ (r : List (List ℕ)). Room r a.span) (sym c.put_cut.ensures)
@@ -62,24 +62,20 @@ loop-i-init c =
     )
 
 pub cut_at-after-requires : goal.cut_at-after-requires
-cut_at-after-requires c = 
-    let few : c.args.span.count ≤ 64 =
-        c.requires.0.room.within.few in
+cut_at-after-requires c =
+    let few : c.args.span.count ≤ 64 = c.requires.0.room.within.few in
     let mid-there : 3 + 2 * c.args.j < length c.put_cut.new.rows =
         let a = c.args in
     subst (λ (n : ℕ). 3 + 2 * a.j < n)
     (sym (ap length c.put_cut.ensures ∙ cut_tall a.rows.now a.span a.j 0 c.moved-cut.result c.requires.0.room c.requires.0.there (omega arith)))
     c.requires.0.there in
-    let there : 3 + 2 * c.args.j < length c.loop-i.rows =
-        subst (λ (n : ℕ). 3 + 2 * c.args.j < n) (sym c.loop-i.invariant.1.tall) mid-there in
+    let there : 3 + 2 * c.args.j < length c.loop-i.rows = subst (λ (n : ℕ). 3 + 2 * c.args.j < n) (sym c.loop-i.invariant.1.tall) mid-there in
     (c.loop-i.invariant.1.room, there, omega (arith, few))
 
 pub swept_cut-cut-requires : goal.swept_cut-cut-requires
-swept_cut-cut-requires c = 
-    let few : c.args.span.count ≤ 64 =
-        c.requires.0.room.within.few in
-    let mid-word : (i : ℕ) → word c.put_cut.new.rows c.args.span 0 i ≡ word c.args.rows.now c.args.span 0 i =
-        λ i. let a = c.args in
+swept_cut-cut-requires c =
+    let few : c.args.span.count ≤ 64 = c.requires.0.room.within.few in
+    let mid-word : (i : ℕ) → word c.put_cut.new.rows c.args.span 0 i ≡ word c.args.rows.now c.args.span 0 i = λ i. let a = c.args in
     ap (λ (r : List (List ℕ)). word r a.span 0 i) c.put_cut.ensures
     ∙ cut_others a.rows.now a.span a.j 0 c.moved-cut.result c.requires.0.room c.requires.0.there (omega arith) 0 i
     (λ (e : 0 ≡ 2 + 2 * a.j). omega arith) (λ (e : 0 ≡ 3 + 2 * a.j). omega arith) in
@@ -88,8 +84,7 @@ swept_cut-cut-requires c =
         λ i h. let a = c.args in
     ap (λ (r : List (List ℕ)). cut_at r a.span a.j (i + 1)) c.put_cut.ensures
     ∙ cut_there a.rows.now a.span a.j 0 c.moved-cut.result c.requires.0.room c.requires.0.there (omega arith) (i + 1) h (λ (e : i + 1 ≡ 0). omega arith) in
-    let under : c.loop-i.i < c.args.span.count =
-        c.loop-i-test.true in
+    let under : c.loop-i.i < c.args.span.count = c.loop-i-test.true in
     let w = c.loop-i in
     let inside : w.i + 1 ≤ 64 = omega (arith, few, under) in (
       c.requires.0.formed,
@@ -101,31 +96,26 @@ swept_cut-cut-requires c =
     )
 
 pub put_cut-requires-in-loop-i : goal.put_cut-requires-in-loop-i
-put_cut-requires-in-loop-i c = 
-    let few : c.args.span.count ≤ 64 =
-        c.requires.0.room.within.few in
+put_cut-requires-in-loop-i c =
+    let few : c.args.span.count ≤ 64 = c.requires.0.room.within.few in
     let mid-there : 3 + 2 * c.args.j < length c.put_cut.new.rows =
         let a = c.args in
     subst (λ (n : ℕ). 3 + 2 * a.j < n)
     (sym (ap length c.put_cut.ensures ∙ cut_tall a.rows.now a.span a.j 0 c.moved-cut.result c.requires.0.room c.requires.0.there (omega arith)))
     c.requires.0.there in
-    let there : 3 + 2 * c.args.j < length c.loop-i.rows =
-        subst (λ (n : ℕ). 3 + 2 * c.args.j < n) (sym c.loop-i.invariant.1.tall) mid-there in
-    let under : c.loop-i.i < c.args.span.count =
-        c.loop-i-test.true in
+    let there : 3 + 2 * c.args.j < length c.loop-i.rows = subst (λ (n : ℕ). 3 + 2 * c.args.j < n) (sym c.loop-i.invariant.1.tall) mid-there in
+    let under : c.loop-i.i < c.args.span.count = c.loop-i-test.true in
     (c.loop-i.invariant.1.room, there, omega (arith, few, under))
 
 pub word-held-requires-in-loop-i : goal.word-held-requires-in-loop-i
-word-held-requires-in-loop-i c = 
-    let few : c.args.span.count ≤ 64 =
-        c.requires.0.room.within.few in
+word-held-requires-in-loop-i c =
+    let few : c.args.span.count ≤ 64 = c.requires.0.room.within.few in
     let mid-there : 3 + 2 * c.args.j < length c.put_cut.new.rows =
         let a = c.args in
     subst (λ (n : ℕ). 3 + 2 * a.j < n)
     (sym (ap length c.put_cut.ensures ∙ cut_tall a.rows.now a.span a.j 0 c.moved-cut.result c.requires.0.room c.requires.0.there (omega arith)))
     c.requires.0.there in
-    let under : c.loop-i.i < c.args.span.count =
-        c.loop-i-test.true in
+    let under : c.loop-i.i < c.args.span.count = c.loop-i-test.true in
     let next-set : (let a = c.args in
     set_of c.swept_cut-cut.result ≡ new_set a.p c.put_cut.new.rows a.span a.j a.action a.stamp (set_of c.moved-cut.result) (c.loop-i.i + 1)) =
         let a = c.args in
@@ -142,16 +132,14 @@ word-held-requires-in-loop-i c =
     (r, omega (arith, r.shared), omega (arith, few, under))
 
 pub word-input-requires-in-loop-i : goal.word-input-requires-in-loop-i
-word-input-requires-in-loop-i c = 
-    let few : c.args.span.count ≤ 64 =
-        c.requires.0.room.within.few in
+word-input-requires-in-loop-i c =
+    let few : c.args.span.count ≤ 64 = c.requires.0.room.within.few in
     let mid-there : 3 + 2 * c.args.j < length c.put_cut.new.rows =
         let a = c.args in
     subst (λ (n : ℕ). 3 + 2 * a.j < n)
     (sym (ap length c.put_cut.ensures ∙ cut_tall a.rows.now a.span a.j 0 c.moved-cut.result c.requires.0.room c.requires.0.there (omega arith)))
     c.requires.0.there in
-    let under : c.loop-i.i < c.args.span.count =
-        c.loop-i-test.true in
+    let under : c.loop-i.i < c.args.span.count = c.loop-i-test.true in
     let next-set : (let a = c.args in
     set_of c.swept_cut-cut.result ≡ new_set a.p c.put_cut.new.rows a.span a.j a.action a.stamp (set_of c.moved-cut.result) (c.loop-i.i + 1)) =
         let a = c.args in
@@ -168,16 +156,14 @@ word-input-requires-in-loop-i c =
     (r, r.shared, omega (arith, few, under))
 
 pub loop-i-preserved : goal.loop-i-preserved
-loop-i-preserved c = 
-    let few : c.args.span.count ≤ 64 =
-        c.requires.0.room.within.few in
+loop-i-preserved c =
+    let few : c.args.span.count ≤ 64 = c.requires.0.room.within.few in
     let mid-there : 3 + 2 * c.args.j < length c.put_cut.new.rows =
         let a = c.args in
     subst (λ (n : ℕ). 3 + 2 * a.j < n)
     (sym (ap length c.put_cut.ensures ∙ cut_tall a.rows.now a.span a.j 0 c.moved-cut.result c.requires.0.room c.requires.0.there (omega arith)))
     c.requires.0.there in
-    let under : c.loop-i.i < c.args.span.count =
-        c.loop-i-test.true in
+    let under : c.loop-i.i < c.args.span.count = c.loop-i-test.true in
     let next-set : (let a = c.args in
     set_of c.swept_cut-cut.result ≡ new_set a.p c.put_cut.new.rows a.span a.j a.action a.stamp (set_of c.moved-cut.result) (c.loop-i.i + 1)) =
         let a = c.args in
@@ -201,7 +187,8 @@ loop-i-preserved c =
     )
 
 pub returns : goal.returns
-returns c =     let a = c.args in
+returns c =
+    let a = c.args in
     let w = c.loop-i in
     let cut = c.moved-cut in
     let end : w.i ≡ a.span.count = omega arith in
