@@ -1,7 +1,6 @@
 -- `matcher::arranged` meets its contract: the whole match is taken from the one word and put into the other.
-use Prim.Native.Nat.{ℕ, suc, ◌*◌, ◌+◌, ◌-◌, ◌%◌, ◌^◌}
+use Prim.Native.Nat.{ℕ, ◌*◌, ◌+◌, ◌-◌, ◌%◌, ◌^◌}
 use mathlib.Core.Path.{sym, subst}
-use native.Mathlib.Omega.{arith}
 use lib.Bits.{bit_and, bit_or}
 use Rattle.matcher.specs.Sets.{Arranged}
 use Rattle.matcher.proofs.Moves.{ones_pos, kept_is}
