@@ -9,7 +9,8 @@ use Rattle.rows.proofs.Rows.{room-with, tall-with}
 use Rattle.cuts.proofs.put_cut.Goals as goal
 
 pub put-requires-2 : goal.put-requires-2
-put-requires-2 c =     let a = c.args in
+put-requires-2 c =
+    let a = c.args in
     let first = c.put in
     let tall = ap length first.ensures ∙ tall-with a.rows.now a.span (2 + 2 * a.j) a.i a.cut.mask in (
       subst (λ (r : List (List ℕ)). Room r a.span) (sym first.ensures)
@@ -19,5 +20,6 @@ put-requires-2 c =     let a = c.args in
     )
 
 pub returns : goal.returns
-returns c =     let a = c.args in
+returns c =
+    let a = c.args in
     c.put-2.ensures ∙ ap (λ (r : List (List ℕ)). with r a.span (3 + 2 * a.j) a.i a.cut.armed) c.put.ensures

@@ -5,6 +5,7 @@ use mathlib.Core.List.{List}
 use mathlib.Core.Bool.{true}
 use native.Mathlib.Omega.{arith}
 use lib.ListN.{length}
+use Rattle.rows.specs.declared.Span.{Span}
 use Rattle.rows.specs.Rows.{word, Room}
 use Rattle.meaning.specs.Limits.{last_stamp}
 use Rattle.meaning.specs.Matcher.{moved}
@@ -12,187 +13,153 @@ use Rattle.property.specs.Meant.{meant}
 use Rattle.matcher.specs.declared.Cut.{Cut}
 use Rattle.matcher.specs.Sets.{set_of, Fits}
 use Rattle.cuts.specs.Steps.{line_of}
-use Rattle.cuts.specs.Fronts.{cut_at}
+use Rattle.cuts.specs.Fronts.{cut_at, with_cut}
 use Rattle.cuts.proofs.Sweeps.{cut_tall, cut_room, cut_others, cut_here, cut_there, Sweeping, new_set, new_set_none, sweeping_first, sweeping_more, new_set_next, rows-swept}
 use Rattle.cuts.proofs.sweep.Goals as goal
+
+-- Rows with one cut stored have room, and with the first stored, what stands there of an open input and of a later cut is as it was.
+module _ (rows now : List (List ℕ)) (s : Span) (j : ℕ) (c : Cut) (room : Room rows s) (there : 3 + 2 * j < length rows) where
+  stored_room : (i : ℕ) → i ≤ 64 → now ≡ with_cut rows s j i c → Room now s
+  stored_room i few is = subst (λ (r : List (List ℕ)). Room r s) (sym is) (cut_room rows s j i c room there few)
+
+  module _ (is : now ≡ with_cut rows s j 0 c) where
+    first : cut_at now s j 0 ≡ c
+    first = ap (λ (r : List (List ℕ)). cut_at r s j 0) is ∙ cut_here rows s j 0 c room there (omega arith)
+
+    first_there : 3 + 2 * j < length now
+    first_there = subst (λ (n : ℕ). 3 + 2 * j < n) (sym (ap length is ∙ cut_tall rows s j 0 c room there (omega arith))) there
+
+    first_word : (i : ℕ) → word now s 0 i ≡ word rows s 0 i
+    first_word i =
+        ap (λ (r : List (List ℕ)). word r s 0 i) is
+        ∙ cut_others rows s j 0 c room there (omega arith) 0 i (λ (e : 0 ≡ 2 + 2 * j). omega arith) (λ (e : 0 ≡ 3 + 2 * j). omega arith)
+
+    first_cut : (i : ℕ) → i + 1 ≤ 64 → cut_at now s j (i + 1) ≡ cut_at rows s j (i + 1)
+    first_cut i h =
+        ap (λ (r : List (List ℕ)). cut_at r s j (i + 1)) is
+        ∙ cut_there rows s j 0 c room there (omega arith) (i + 1) h (λ (e : i + 1 ≡ 0). omega arith)
+
+    loop-there : (rows' : List (List ℕ)) → length rows' ≡ length now → 3 + 2 * j < length rows'
+    loop-there rows' tall = subst (λ (n : ℕ). 3 + 2 * j < n) (sym tall) first_there
 
 pub cut_at-requires : goal.cut_at-requires
 cut_at-requires c = (c.requires.0.room, c.requires.0.there, omega arith)
 
 pub moved-cut-requires : goal.moved-cut-requires
-moved-cut-requires c =     (c.requires.0.formed, c.requires.1, subst (Fits c.args.p) (sym c.cut_at.ensures) (c.requires.0.fits 0 (omega arith)))
+moved-cut-requires c = (c.requires.0.formed, c.requires.1, subst (Fits c.args.p) (sym c.cut_at.ensures) (c.requires.0.fits 0 (omega arith)))
 
 pub put_cut-requires : goal.put_cut-requires
 put_cut-requires c = (c.requires.0.room, c.requires.0.there, omega arith)
 
 pub word-held-requires : goal.word-held-requires
-word-held-requires c = 
-    let mid-room : Room c.put_cut.new.rows c.args.span =
-        let a = c.args in
-    subst (λ (r : List (List ℕ)). Room r a.span) (sym c.put_cut.ensures)
-    (cut_room a.rows.now a.span a.j 0 c.moved-cut.result c.requires.0.room c.requires.0.there (omega arith)) in
-    let r = mid-room in (r, omega (arith, r.shared), omega arith)
+word-held-requires c =
+    let a = c.args in
+    let u = c.requires.0 in
+    let r = stored_room a.rows.now c.put_cut.new.rows a.span a.j c.moved-cut.result u.room u.there 0 (omega arith) c.put_cut.ensures in
+    (r, omega (arith, r.shared), omega arith)
 
 pub word-input-requires : goal.word-input-requires
-word-input-requires c = 
-    let mid-room : Room c.put_cut.new.rows c.args.span =
-        let a = c.args in
-    subst (λ (r : List (List ℕ)). Room r a.span) (sym c.put_cut.ensures)
-    (cut_room a.rows.now a.span a.j 0 c.moved-cut.result c.requires.0.room c.requires.0.there (omega arith)) in
-    let r = mid-room in (r, r.shared, omega arith)
+word-input-requires c =
+    let a = c.args in
+    let u = c.requires.0 in
+    let r = stored_room a.rows.now c.put_cut.new.rows a.span a.j c.moved-cut.result u.room u.there 0 (omega arith) c.put_cut.ensures in
+    (r, r.shared, omega arith)
 
 pub loop-i-init : goal.loop-i-init
-loop-i-init c = 
-    let mid-room : Room c.put_cut.new.rows c.args.span =
-        let a = c.args in
-    subst (λ (r : List (List ℕ)). Room r a.span) (sym c.put_cut.ensures)
-    (cut_room a.rows.now a.span a.j 0 c.moved-cut.result c.requires.0.room c.requires.0.there (omega arith)) in
-    let mid-first : cut_at c.put_cut.new.rows c.args.span c.args.j 0 ≡ c.moved-cut.result =
-        let a = c.args in
-    ap (λ (r : List (List ℕ)). cut_at r a.span a.j 0) c.put_cut.ensures
-    ∙ cut_here a.rows.now a.span a.j 0 c.moved-cut.result c.requires.0.room c.requires.0.there (omega arith) in
+loop-i-init c =
     let a = c.args in
-    let cut = c.moved-cut in (
+    let u = c.requires.0 in
+    let cut = c.moved-cut in
+    let mid = c.put_cut.new.rows in (
       omega arith,
-      sweeping_first a.p c.put_cut.new.rows a.span a.j a.action a.stamp (set_of cut.result) cut.result mid-room mid-first refl cut.ensures.fits,
-      new_set_none a.p c.put_cut.new.rows a.span a.j a.action a.stamp (set_of cut.result),
+      sweeping_first a.p mid a.span a.j a.action a.stamp (set_of cut.result) cut.result
+          (stored_room a.rows.now mid a.span a.j cut.result u.room u.there 0 (omega arith) c.put_cut.ensures)
+          (first a.rows.now mid a.span a.j cut.result u.room u.there c.put_cut.ensures) refl cut.ensures.fits,
+      new_set_none a.p mid a.span a.j a.action a.stamp (set_of cut.result),
       cut.ensures.fits,
       c.word-held.ensures,
       c.word-input.ensures,
     )
 
 pub cut_at-after-requires : goal.cut_at-after-requires
-cut_at-after-requires c = 
-    let few : c.args.span.count ≤ 64 =
-        c.requires.0.room.within.few in
-    let mid-there : 3 + 2 * c.args.j < length c.put_cut.new.rows =
-        let a = c.args in
-    subst (λ (n : ℕ). 3 + 2 * a.j < n)
-    (sym (ap length c.put_cut.ensures ∙ cut_tall a.rows.now a.span a.j 0 c.moved-cut.result c.requires.0.room c.requires.0.there (omega arith)))
-    c.requires.0.there in
-    let there : 3 + 2 * c.args.j < length c.loop-i.rows =
-        subst (λ (n : ℕ). 3 + 2 * c.args.j < n) (sym c.loop-i.invariant.1.tall) mid-there in
-    (c.loop-i.invariant.1.room, there, omega (arith, few))
+cut_at-after-requires c =
+    let a = c.args in
+    let u = c.requires.0 in
+    let w = c.loop-i in (
+      w.invariant.1.room,
+      loop-there a.rows.now c.put_cut.new.rows a.span a.j c.moved-cut.result u.room u.there c.put_cut.ensures w.rows w.invariant.1.tall,
+      omega (arith, u.room.within.few),
+    )
 
 pub swept_cut-cut-requires : goal.swept_cut-cut-requires
-swept_cut-cut-requires c = 
-    let few : c.args.span.count ≤ 64 =
-        c.requires.0.room.within.few in
-    let mid-word : (i : ℕ) → word c.put_cut.new.rows c.args.span 0 i ≡ word c.args.rows.now c.args.span 0 i =
-        λ i. let a = c.args in
-    ap (λ (r : List (List ℕ)). word r a.span 0 i) c.put_cut.ensures
-    ∙ cut_others a.rows.now a.span a.j 0 c.moved-cut.result c.requires.0.room c.requires.0.there (omega arith) 0 i
-    (λ (e : 0 ≡ 2 + 2 * a.j). omega arith) (λ (e : 0 ≡ 3 + 2 * a.j). omega arith) in
-    let mid-cut : (i : ℕ) → i + 1 ≤ 64
-    → cut_at c.put_cut.new.rows c.args.span c.args.j (i + 1) ≡ cut_at c.args.rows.now c.args.span c.args.j (i + 1) =
-        λ i h. let a = c.args in
-    ap (λ (r : List (List ℕ)). cut_at r a.span a.j (i + 1)) c.put_cut.ensures
-    ∙ cut_there a.rows.now a.span a.j 0 c.moved-cut.result c.requires.0.room c.requires.0.there (omega arith) (i + 1) h (λ (e : i + 1 ≡ 0). omega arith) in
-    let under : c.loop-i.i < c.args.span.count =
-        c.loop-i-test.true in
+swept_cut-cut-requires c =
+    let a = c.args in
+    let u = c.requires.0 in
     let w = c.loop-i in
-    let inside : w.i + 1 ≤ 64 = omega (arith, few, under) in (
-      c.requires.0.formed,
+    let mid = c.put_cut.new.rows in
+    let cut = c.moved-cut.result in
+    let inside : w.i + 1 ≤ 64 = omega (arith, u.room.within.few, c.loop-i-test.true) in (
+      u.formed,
       c.requires.1,
-      subst (λ (x : ℕ). x ≤ last_stamp) (sym (w.invariant.4 ∙ mid-word w.i)) (c.requires.0.stamps w.i under),
+      subst (λ (x : ℕ). x ≤ last_stamp)
+          (sym (w.invariant.4 ∙ first_word a.rows.now mid a.span a.j cut u.room u.there c.put_cut.ensures w.i))
+          (u.stamps w.i c.loop-i-test.true),
       w.invariant.3,
-      subst (Fits c.args.p) (sym (c.cut_at-after.ensures ∙ w.invariant.1.kept (w.i + 1) (omega arith) inside ∙ mid-cut w.i inside))
-          (c.requires.0.fits (w.i + 1) (omega (arith, under))),
+      subst (Fits a.p)
+          (sym
+          (c.cut_at-after.ensures
+          ∙ w.invariant.1.kept (w.i + 1) (omega arith) inside
+          ∙ first_cut a.rows.now mid a.span a.j cut u.room u.there c.put_cut.ensures w.i inside))
+          (u.fits (w.i + 1) (omega (arith, c.loop-i-test.true))),
     )
 
 pub put_cut-requires-in-loop-i : goal.put_cut-requires-in-loop-i
-put_cut-requires-in-loop-i c = 
-    let few : c.args.span.count ≤ 64 =
-        c.requires.0.room.within.few in
-    let mid-there : 3 + 2 * c.args.j < length c.put_cut.new.rows =
-        let a = c.args in
-    subst (λ (n : ℕ). 3 + 2 * a.j < n)
-    (sym (ap length c.put_cut.ensures ∙ cut_tall a.rows.now a.span a.j 0 c.moved-cut.result c.requires.0.room c.requires.0.there (omega arith)))
-    c.requires.0.there in
-    let there : 3 + 2 * c.args.j < length c.loop-i.rows =
-        subst (λ (n : ℕ). 3 + 2 * c.args.j < n) (sym c.loop-i.invariant.1.tall) mid-there in
-    let under : c.loop-i.i < c.args.span.count =
-        c.loop-i-test.true in
-    (c.loop-i.invariant.1.room, there, omega (arith, few, under))
+put_cut-requires-in-loop-i c =
+    let a = c.args in
+    let u = c.requires.0 in
+    let w = c.loop-i in (
+      w.invariant.1.room,
+      loop-there a.rows.now c.put_cut.new.rows a.span a.j c.moved-cut.result u.room u.there c.put_cut.ensures w.rows w.invariant.1.tall,
+      omega (arith, u.room.within.few, c.loop-i-test.true),
+    )
 
 pub word-held-requires-in-loop-i : goal.word-held-requires-in-loop-i
-word-held-requires-in-loop-i c = 
-    let few : c.args.span.count ≤ 64 =
-        c.requires.0.room.within.few in
-    let mid-there : 3 + 2 * c.args.j < length c.put_cut.new.rows =
-        let a = c.args in
-    subst (λ (n : ℕ). 3 + 2 * a.j < n)
-    (sym (ap length c.put_cut.ensures ∙ cut_tall a.rows.now a.span a.j 0 c.moved-cut.result c.requires.0.room c.requires.0.there (omega arith)))
-    c.requires.0.there in
-    let under : c.loop-i.i < c.args.span.count =
-        c.loop-i-test.true in
-    let next-set : (let a = c.args in
-    set_of c.swept_cut-cut.result ≡ new_set a.p c.put_cut.new.rows a.span a.j a.action a.stamp (set_of c.moved-cut.result) (c.loop-i.i + 1)) =
-        let a = c.args in
+word-held-requires-in-loop-i c =
+    let a = c.args in
+    let u = c.requires.0 in
     let w = c.loop-i in
-    new_set_next a.p c.put_cut.new.rows a.span a.j a.action a.stamp (set_of c.moved-cut.result) w.i w.rows w.cut c.cut_at-after.result
-    c.swept_cut-cut.result w.held w.input w.invariant.1 (omega (arith, few, under)) w.invariant.2 c.cut_at-after.ensures w.invariant.4 w.invariant.5 c.swept_cut-cut.ensures in
-    let done : (let a = c.args in
-    Sweeping a.p c.put_cut.new.rows a.span a.j a.action a.stamp (set_of c.moved-cut.result) (c.loop-i.i + 1 + 1) c.put_cut-in-loop-i.new.rows) =
-        let a = c.args in
-    let w = c.loop-i in
-    sweeping_more a.p c.put_cut.new.rows a.span a.j a.action a.stamp (set_of c.moved-cut.result) (w.i + 1) w.rows c.put_cut-in-loop-i.new.rows
-    c.swept_cut-cut.result mid-there (omega (arith, few, under)) w.invariant.1 next-set c.swept_cut-cut.ensures.fits c.put_cut-in-loop-i.ensures in
-    let r = done.room in
-    (r, omega (arith, r.shared), omega (arith, few, under))
+    let there = loop-there a.rows.now c.put_cut.new.rows a.span a.j c.moved-cut.result u.room u.there c.put_cut.ensures w.rows w.invariant.1.tall in
+    let few : w.i + 1 ≤ 64 = omega (arith, u.room.within.few, c.loop-i-test.true) in
+    let r = stored_room w.rows c.put_cut-in-loop-i.new.rows a.span a.j c.swept_cut-cut.result w.invariant.1.room there (w.i + 1) few
+    c.put_cut-in-loop-i.ensures in
+    (r, omega (arith, r.shared), few)
 
 pub word-input-requires-in-loop-i : goal.word-input-requires-in-loop-i
-word-input-requires-in-loop-i c = 
-    let few : c.args.span.count ≤ 64 =
-        c.requires.0.room.within.few in
-    let mid-there : 3 + 2 * c.args.j < length c.put_cut.new.rows =
-        let a = c.args in
-    subst (λ (n : ℕ). 3 + 2 * a.j < n)
-    (sym (ap length c.put_cut.ensures ∙ cut_tall a.rows.now a.span a.j 0 c.moved-cut.result c.requires.0.room c.requires.0.there (omega arith)))
-    c.requires.0.there in
-    let under : c.loop-i.i < c.args.span.count =
-        c.loop-i-test.true in
-    let next-set : (let a = c.args in
-    set_of c.swept_cut-cut.result ≡ new_set a.p c.put_cut.new.rows a.span a.j a.action a.stamp (set_of c.moved-cut.result) (c.loop-i.i + 1)) =
-        let a = c.args in
+word-input-requires-in-loop-i c =
+    let a = c.args in
+    let u = c.requires.0 in
     let w = c.loop-i in
-    new_set_next a.p c.put_cut.new.rows a.span a.j a.action a.stamp (set_of c.moved-cut.result) w.i w.rows w.cut c.cut_at-after.result
-    c.swept_cut-cut.result w.held w.input w.invariant.1 (omega (arith, few, under)) w.invariant.2 c.cut_at-after.ensures w.invariant.4 w.invariant.5 c.swept_cut-cut.ensures in
-    let done : (let a = c.args in
-    Sweeping a.p c.put_cut.new.rows a.span a.j a.action a.stamp (set_of c.moved-cut.result) (c.loop-i.i + 1 + 1) c.put_cut-in-loop-i.new.rows) =
-        let a = c.args in
-    let w = c.loop-i in
-    sweeping_more a.p c.put_cut.new.rows a.span a.j a.action a.stamp (set_of c.moved-cut.result) (w.i + 1) w.rows c.put_cut-in-loop-i.new.rows
-    c.swept_cut-cut.result mid-there (omega (arith, few, under)) w.invariant.1 next-set c.swept_cut-cut.ensures.fits c.put_cut-in-loop-i.ensures in
-    let r = done.room in
-    (r, r.shared, omega (arith, few, under))
+    let there = loop-there a.rows.now c.put_cut.new.rows a.span a.j c.moved-cut.result u.room u.there c.put_cut.ensures w.rows w.invariant.1.tall in
+    let few : w.i + 1 ≤ 64 = omega (arith, u.room.within.few, c.loop-i-test.true) in
+    let r = stored_room w.rows c.put_cut-in-loop-i.new.rows a.span a.j c.swept_cut-cut.result w.invariant.1.room there (w.i + 1) few
+    c.put_cut-in-loop-i.ensures in
+    (r, r.shared, few)
 
 pub loop-i-preserved : goal.loop-i-preserved
-loop-i-preserved c = 
-    let few : c.args.span.count ≤ 64 =
-        c.requires.0.room.within.few in
-    let mid-there : 3 + 2 * c.args.j < length c.put_cut.new.rows =
-        let a = c.args in
-    subst (λ (n : ℕ). 3 + 2 * a.j < n)
-    (sym (ap length c.put_cut.ensures ∙ cut_tall a.rows.now a.span a.j 0 c.moved-cut.result c.requires.0.room c.requires.0.there (omega arith)))
-    c.requires.0.there in
-    let under : c.loop-i.i < c.args.span.count =
-        c.loop-i-test.true in
-    let next-set : (let a = c.args in
-    set_of c.swept_cut-cut.result ≡ new_set a.p c.put_cut.new.rows a.span a.j a.action a.stamp (set_of c.moved-cut.result) (c.loop-i.i + 1)) =
-        let a = c.args in
-    let w = c.loop-i in
-    new_set_next a.p c.put_cut.new.rows a.span a.j a.action a.stamp (set_of c.moved-cut.result) w.i w.rows w.cut c.cut_at-after.result
-    c.swept_cut-cut.result w.held w.input w.invariant.1 (omega (arith, few, under)) w.invariant.2 c.cut_at-after.ensures w.invariant.4 w.invariant.5 c.swept_cut-cut.ensures in
-    let done : (let a = c.args in
-    Sweeping a.p c.put_cut.new.rows a.span a.j a.action a.stamp (set_of c.moved-cut.result) (c.loop-i.i + 1 + 1) c.put_cut-in-loop-i.new.rows) =
-        let a = c.args in
-    let w = c.loop-i in
-    sweeping_more a.p c.put_cut.new.rows a.span a.j a.action a.stamp (set_of c.moved-cut.result) (w.i + 1) w.rows c.put_cut-in-loop-i.new.rows
-    c.swept_cut-cut.result mid-there (omega (arith, few, under)) w.invariant.1 next-set c.swept_cut-cut.ensures.fits c.put_cut-in-loop-i.ensures in
+loop-i-preserved c =
     let a = c.args in
-    let next = c.loop-i.i + 1 in (
-      omega (arith, under),
+    let u = c.requires.0 in
+    let w = c.loop-i in
+    let mid = c.put_cut.new.rows in
+    let head = set_of c.moved-cut.result in
+    let next = w.i + 1 in
+    let few : w.i + 1 ≤ 64 = omega (arith, u.room.within.few, c.loop-i-test.true) in
+    let next-set = new_set_next a.p mid a.span a.j a.action a.stamp head w.i w.rows w.cut c.cut_at-after.result c.swept_cut-cut.result w.held w.input
+    w.invariant.1 (omega (arith, few)) w.invariant.2 c.cut_at-after.ensures w.invariant.4 w.invariant.5 c.swept_cut-cut.ensures in
+    let done = sweeping_more a.p mid a.span a.j a.action a.stamp head next w.rows c.put_cut-in-loop-i.new.rows c.swept_cut-cut.result
+    (first_there a.rows.now mid a.span a.j c.moved-cut.result u.room u.there c.put_cut.ensures)
+    few w.invariant.1 next-set c.swept_cut-cut.ensures.fits c.put_cut-in-loop-i.ensures in (
+      omega (arith, c.loop-i-test.true),
       done,
       next-set,
       c.swept_cut-cut.ensures.fits,
@@ -201,7 +168,8 @@ loop-i-preserved c =
     )
 
 pub returns : goal.returns
-returns c =     let a = c.args in
+returns c =
+    let a = c.args in
     let w = c.loop-i in
     let cut = c.moved-cut in
     let end : w.i ≡ a.span.count = omega arith in

@@ -7,7 +7,7 @@ use Rattle.cuts.proofs.Sweeps.{Sweeping, new_set}
 use Rattle.cuts.proofs.sweep.Given as goal
 
 abbrev pub invariant-loop-i : goal.invariant-loop-i
-invariant-loop-i l =     (l.i ≤ l.span.count)
+invariant-loop-i l = (l.i ≤ l.span.count)
     × Sweeping l.p l.initial.rows l.span l.j l.action l.stamp (set_of l.initial.cut) (l.i + 1) l.rows
     × (set_of l.cut ≡ new_set l.p l.initial.rows l.span l.j l.action l.stamp (set_of l.initial.cut) l.i)
     × Fits l.p l.cut

@@ -10,7 +10,8 @@ use Rattle.cuts.specs.Steps.{line_of}
 use Rattle.cuts.proofs.swept_cut.Goals as goal
 
 pub returns-then-held-p : goal.returns-then-held-p
-returns-then-held-p c =     let a = c.args in
+returns-then-held-p c =
+    let a = c.args in
     let direct = c.moved-direct in
     record {
       set =
@@ -24,7 +25,8 @@ returns-then-held-p c =     let a = c.args in
     }
 
 pub returns : goal.returns
-returns c =     let a = c.args in
+returns c =
+    let a = c.args in
     record {
       set =
           c.moved-behind.ensures.set a.held

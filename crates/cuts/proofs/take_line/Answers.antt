@@ -44,8 +44,7 @@ returns-then-output c =
 pub append-requires : goal.append-requires
 append-requires c =
     let a = c.args in
-    let pre = c.requires in
-    (
+    let pre = c.requires in (
       left a.p a.rows.now a.span c.shorter-left.result a.stamp a.closed pre.usable.0 pre.closes.0 c.shorter-left.ensures,
       pre.usable.1,
       room a.span c.shorter-left.result a.closed c.shorter-left.ensures (pre.closes.2 c.if-output.false),

@@ -12,7 +12,8 @@ use Rattle.cuts.specs.Fronts.{set_at}
 use Rattle.cuts.proofs.verdict.Goals as goal
 
 pub returns : goal.returns
-returns c =     let a = c.args in
+returns c =
+    let a = c.args in
     let cut = c.cut_at in
     λ p fit.
     c.verdict.ensures p (subst (Fits p) (sym cut.ensures) fit)

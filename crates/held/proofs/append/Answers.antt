@@ -8,7 +8,8 @@ use Rattle.rows.proofs.Rows.{room-with}
 use Rattle.held.proofs.append.Goals as goal
 
 pub put-requires-2 : goal.put-requires-2
-put-requires-2 c =     let s = c.args.span in
+put-requires-2 c =
+    let s = c.args.span in
     let first = c.put in
     let one : Room first.new.rows s =
     subst (λ (r : List (List ℕ)). Room r s) (sym first.ensures)
@@ -16,5 +17,6 @@ put-requires-2 c =     let s = c.args.span in
     (one, one.shared, c.requires.within.few)
 
 pub returns : goal.returns
-returns c =     let s = c.args.span in
+returns c =
+    let s = c.args.span in
     c.put-2.ensures ∙ ap (λ (r : List (List ℕ)). with r s 1 s.count c.args.action) c.put.ensures

@@ -15,7 +15,7 @@ pub loop-i-init : goal.loop-i-init
 loop-i-init c = (search rules, λ k h. absurd (not-suc-le-zero h))
 
 pub returns-then-next_stamp-word : goal.returns-then-next_stamp-word
-returns-then-next_stamp-word c = 
+returns-then-next_stamp-word c =
     let compared : above c.args.rows.now c.args.span c.args.latest c.loop-i.i ≡ ltb c.next_stamp.result c.word.result =
         sym (ap₂ ltb c.next_stamp.ensures c.word.ensures) in
     let a = c.args in
@@ -24,11 +24,12 @@ returns-then-next_stamp-word c =
     (compared ∙ lt-ltb _ _ c.if-next_stamp-word.true))
 
 pub loop-i-preserved : goal.loop-i-preserved
-loop-i-preserved c = 
+loop-i-preserved c =
     let compared : above c.args.rows.now c.args.span c.args.latest c.loop-i.i ≡ ltb c.next_stamp.result c.word.result =
         sym (ap₂ ltb c.next_stamp.ensures c.word.ensures) in
     (search rules, below_more _ _ c.loop-i.invariant.1 (compared ∙ le-ltb _ _ c.if-next_stamp-word.false))
 
 pub returns : goal.returns
-returns c =     let a = c.args in
+returns c =
+    let a = c.args in
     sym (none_below a.span.count (above a.rows.now a.span a.latest) (λ i h. c.loop-i.invariant.1 i (omega arith)))

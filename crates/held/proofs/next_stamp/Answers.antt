@@ -9,7 +9,8 @@ use borrow.Author.Tests.{lt-ltb, le-ltb}
 use Rattle.held.proofs.next_stamp.Goals as goal
 
 pub returns-then-j-span : goal.returns-then-j-span
-returns-then-j-span c =     c.word.ensures ∙ ap (word c.args.rows.now c.args.span 0) (add-one c.args.i)
+returns-then-j-span c =
+    c.word.ensures ∙ ap (word c.args.rows.now c.args.span 0) (add-one c.args.i)
     ∙ ap (λ (b : Bool). cond b (word c.args.rows.now c.args.span 0 (suc c.args.i)) c.args.latest) (sym (lt-ltb (suc c.args.i) c.args.span.count (omega arith)))
 
 pub returns : goal.returns

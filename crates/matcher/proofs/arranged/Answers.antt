@@ -1,7 +1,6 @@
 -- `matcher::arranged` meets its contract: the whole match is taken from the one word and put into the other.
-use Prim.Native.Nat.{ℕ, suc, ◌*◌, ◌+◌, ◌-◌, ◌%◌, ◌^◌}
+use Prim.Native.Nat.{ℕ, ◌*◌, ◌+◌, ◌-◌, ◌%◌, ◌^◌}
 use mathlib.Core.Path.{sym, subst}
-use native.Mathlib.Omega.{arith}
 use lib.Bits.{bit_and, bit_or}
 use Rattle.matcher.specs.Sets.{Arranged}
 use Rattle.matcher.proofs.Moves.{ones_pos, kept_is}
@@ -12,7 +11,8 @@ pub overflow_sub-low : goal.overflow_sub-low
 overflow_sub-low c = ones_pos c.args.n c.requires.0
 
 pub returns : goal.returns
-returns c =     let a = c.args in
+returns c =
+    let a = c.args in
     let pre = c.requires in
     let low : ℕ = bit_and a.free ((1 * 2 ^ a.n) % 2 ^ 64 - 1) in
     subst (λ (m : ℕ). Arranged a.n a.free a.still a.broken (record { mask = low; armed = m * 2 + a.broken })) (sym c.both-up.ensures.0)

@@ -1,5 +1,5 @@
 -- `matcher::moved` meets its contract: for an output outside the set, an allowed output, and an input.
-use Prim.Native.Nat.{ℕ, suc, ◌/◌, ◌%◌, ◌^◌, ◌≤◌, ◌<◌}
+use Prim.Native.Nat.{ℕ, suc, ◌/◌, ◌%◌, ◌<◌}
 use mathlib.Core.Path.{refl, sym, subst, ◌∙◌}
 use native.Mathlib.Omega.{arith}
 use lib.Dec.{ltb}
@@ -12,20 +12,19 @@ use Rattle.matcher.proofs.moved.Goals as goal
 pub step-free-requires : goal.step-free-requires
 step-free-requires c =
     let a = c.args in
-    let asks =
-        step_asks a.p c.requires.0 a.table.now c.requires.1 a.output a.action c.row-at.result c.row-at.ensures a.cut.mask (fits_parts a.p a.cut c.requires.2).0 in
+    let asks = step_asks a.p c.requires.0 a.table.now c.requires.1 a.output a.action c.row-at.result c.row-at.ensures
+    a.cut.mask (fits_parts a.p a.cut c.requires.2).0 in
     record { n_bound = asks.0; by_index = asks.1 }
 
 pub arranged-requires : goal.arranged-requires
-arranged-requires c = 
-    let few : c.args.p.n ≤ 32 =
-        (taken_bounds c.args.p c.requires.0).most in
+arranged-requires c =
     let cut = c.args.cut in
     let broken = with-lt (cut.armed % 2) (ltb 0 (cut.armed / 2)) (omega arith) in
-    (few, c.step-free.ensures.1, pow_pos (suc c.args.p.n), subst (λ (m : ℕ). m < 2) (sym c.with_broken.ensures) broken)
+    ((taken_bounds c.args.p c.requires.0).most, c.step-free.ensures.1, pow_pos (suc c.args.p.n), subst (λ (m : ℕ). m < 2) (sym c.with_broken.ensures) broken)
 
 pub returns-then-outside : goal.returns-then-outside
-returns-then-outside c =     let a = c.args in
+returns-then-outside c =
+    let a = c.args in
     outside_moves a.p c.requires.0 a.table.now c.requires.1 a.output a.action c.row-at.result c.row-at.ensures a.cut c.requires.2
     (sym (c.outside.ensures a.p refl) ∙ c.if-outside.true)
     c.with_broken.ensures c.step-free.ensures.0 c.arranged.ensures
@@ -34,22 +33,20 @@ pub step-free-requires-then-output : goal.step-free-requires-then-output
 step-free-requires-then-output c =
     let a = c.args in
     let armed-low = armed-lt a.p.n a.cut.armed (fits_parts a.p a.cut c.requires.2).1 in
-    let asks =
-        step_asks a.p c.requires.0 a.table.now c.requires.1 a.output a.action c.row-at.result c.row-at.ensures c.both.result (c.both.ensures.1 (suc a.p.n) (fits_parts a.p a.cut c.requires.2).0 armed-low) in
+    let asks = step_asks a.p c.requires.0 a.table.now c.requires.1 a.output a.action c.row-at.result c.row-at.ensures
+    c.both.result (c.both.ensures.1 (suc a.p.n) (fits_parts a.p a.cut c.requires.2).0 armed-low) in
     record { n_bound = asks.0; by_index = asks.1 }
 
 -- Here and below the bound is shown for 0 and for the armed lengths alike, so that what must fail does so by the set in `returns`.
 pub arranged-requires-then-output : goal.arranged-requires-then-output
-arranged-requires-then-output c = 
-    let armed-low : c.args.cut.armed / 2 < 2 ^ suc c.args.p.n =
-        let a = c.args in
-    armed-lt a.p.n a.cut.armed (fits_parts a.p a.cut c.requires.2).1 in
-    let few : c.args.p.n ≤ 32 =
-        (taken_bounds c.args.p c.requires.0).most in
-    (few, c.step-free-then-output.ensures.1, omega (arith, armed-low, pow_pos (suc c.args.p.n)), omega arith)
+arranged-requires-then-output c =
+    let a = c.args in
+    let armed-low = armed-lt a.p.n a.cut.armed (fits_parts a.p a.cut c.requires.2).1 in
+    ((taken_bounds a.p c.requires.0).most, c.step-free-then-output.ensures.1, omega (arith, armed-low, pow_pos (suc a.p.n)), omega arith)
 
 pub returns-then-output : goal.returns-then-output
-returns-then-output c =     let a = c.args in
+returns-then-output c =
+    let a = c.args in
     allowed_moves a.p c.requires.0 a.table.now c.requires.1 a.output a.action c.row-at.result c.row-at.ensures a.cut c.requires.2
     c.if-output.true
     (sym (c.outside.ensures a.p refl) ∙ c.if-outside.false)
@@ -58,25 +55,24 @@ returns-then-output c =     let a = c.args in
 pub step-free-requires-2 : goal.step-free-requires-2
 step-free-requires-2 c =
     let a = c.args in
-    let asks =
-        step_asks a.p c.requires.0 a.table.now c.requires.1 a.output a.action c.row-at.result c.row-at.ensures a.cut.mask (fits_parts a.p a.cut c.requires.2).0 in
+    let asks = step_asks a.p c.requires.0 a.table.now c.requires.1 a.output a.action c.row-at.result c.row-at.ensures
+    a.cut.mask (fits_parts a.p a.cut c.requires.2).0 in
     record { n_bound = asks.0; by_index = asks.1 }
 
 pub step-still-requires : goal.step-still-requires
 step-still-requires c =
     let a = c.args in
     let armed-low = armed-lt a.p.n a.cut.armed (fits_parts a.p a.cut c.requires.2).1 in
-    let asks =
-        step_asks a.p c.requires.0 a.table.now c.requires.1 a.output a.action c.row-at.result c.row-at.ensures _ (omega (arith, armed-low, pow_pos (suc a.p.n))) in
+    let asks = step_asks a.p c.requires.0 a.table.now c.requires.1 a.output a.action c.row-at.result c.row-at.ensures
+    _ (omega (arith, armed-low, pow_pos (suc a.p.n))) in
     record { n_bound = asks.0; by_index = asks.1 }
 
 pub arranged-requires-2 : goal.arranged-requires-2
-arranged-requires-2 c = 
-    let few : c.args.p.n ≤ 32 =
-        (taken_bounds c.args.p c.requires.0).most in
-    (few, c.step-free-2.ensures.1, c.step-still.ensures.1, omega arith)
+arranged-requires-2 c =
+    ((taken_bounds c.args.p c.requires.0).most, c.step-free-2.ensures.1, c.step-still.ensures.1, omega arith)
 
 pub returns : goal.returns
-returns c =     let a = c.args in
+returns c =
+    let a = c.args in
     input_moves a.p c.requires.0 a.table.now c.requires.1 a.output a.action c.row-at.result c.row-at.ensures a.cut c.requires.2
     c.if-output.false c.step-free-2.ensures.0 c.step-still.ensures.0 c.arranged-2.ensures

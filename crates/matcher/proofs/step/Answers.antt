@@ -5,7 +5,6 @@ use mathlib.Core.Path.{sym, ap, ◌∙◌}
 use mathlib.Core.Bool.{Bool, ◌||◌}
 use native.Mathlib.Omega.{arith}
 use lib.Pow.{pow_pos}
-use lib.Count.{count_trailing_zeros}
 use Rattle.laws.proofs.Bits.{bit-none, rest_less}
 use lib.ListN.{get_or}
 use Rattle.laws.specs.Bits.{bit}
@@ -14,78 +13,46 @@ use Rattle.matcher.proofs.SetStep.{lowest_le, turn, turn_lt, stepped_done}
 use Rattle.matcher.proofs.step.Goals as goal
 
 pub loop-rest-init : goal.loop-rest-init
-loop-rest-init c =     let a = c.args in
+loop-rest-init c =
+    let a = c.args in
     let f : ℕ → ℕ = λ k. get_or a.table.now (a.at + k) 0 in
     (search rules, pow_pos (suc a.n), λ j. ap (λ (b : Bool). b || stepped a.n f (bit a.mask) j) (sym (bit-none j)))
 
 pub overflow_cast-k : goal.overflow_cast-k
-overflow_cast-k c = 
-    let lowest : ℕ =
-        count_trailing_zeros 64 c.loop-rest.rest in
-    let lowest-in-set : lowest ≤ c.args.n =
-        lowest_le c.args.n c.loop-rest.rest (omega arith) (omega arith) (omega arith) in
-    record { fits = omega (arith, lowest-in-set) }
+overflow_cast-k c = record { fits = omega (arith, lowest_le c.args.n c.loop-rest.rest (omega arith) (omega arith) (omega arith)) }
 
 pub overflow_add-r : goal.overflow_add-r
-overflow_add-r c = 
-    let lowest : ℕ =
-        count_trailing_zeros 64 c.loop-rest.rest in
-    let lowest-in-set : lowest ≤ c.args.n =
-        lowest_le c.args.n c.loop-rest.rest (omega arith) (omega arith) (omega arith) in
-    record { fits = omega (arith, lowest-in-set) }
+overflow_add-r c = record { fits = omega (arith, lowest_le c.args.n c.loop-rest.rest (omega arith) (omega arith) (omega arith)) }
 
 pub bounds-table-at : goal.bounds-table-at
-bounds-table-at c = 
-    let lowest : ℕ =
-        count_trailing_zeros 64 c.loop-rest.rest in
-    let lowest-in-set : lowest ≤ c.args.n =
-        lowest_le c.args.n c.loop-rest.rest (omega arith) (omega arith) (omega arith) in
-    omega (arith, lowest-in-set)
+bounds-table-at c = omega (arith, lowest_le c.args.n c.loop-rest.rest (omega arith) (omega arith) (omega arith))
 
 pub overflow_cast-r : goal.overflow_cast-r
-overflow_cast-r c = 
-    let lowest : ℕ =
-        count_trailing_zeros 64 c.loop-rest.rest in
-    let lowest-in-set : lowest ≤ c.args.n =
-        lowest_le c.args.n c.loop-rest.rest (omega arith) (omega arith) (omega arith) in
-    let goes-low : get_or c.args.table.now (c.args.at + lowest) 0 ≤ c.args.n =
-        c.requires.by_index lowest lowest-in-set in
-    record { fits = omega (arith, goes-low) }
+overflow_cast-r c = record { fits = omega (arith, c.requires.by_index _ (lowest_le c.args.n c.loop-rest.rest (omega arith) (omega arith) (omega arith))) }
 
 pub overflow_shl-r : goal.overflow_shl-r
-overflow_shl-r c = 
-    let lowest : ℕ =
-        count_trailing_zeros 64 c.loop-rest.rest in
-    let lowest-in-set : lowest ≤ c.args.n =
-        lowest_le c.args.n c.loop-rest.rest (omega arith) (omega arith) (omega arith) in
-    let goes-low : get_or c.args.table.now (c.args.at + lowest) 0 ≤ c.args.n =
-        c.requires.by_index lowest lowest-in-set in
-    omega (arith, goes-low)
+overflow_shl-r c = omega (arith, c.requires.by_index _ (lowest_le c.args.n c.loop-rest.rest (omega arith) (omega arith) (omega arith)))
 
 pub loop-rest-smaller : goal.loop-rest-smaller
 loop-rest-smaller c = rest_less c.loop-rest.rest (omega arith)
 
 pub loop-rest-preserved : goal.loop-rest-preserved
-loop-rest-preserved c = 
-    let lowest : ℕ =
-        count_trailing_zeros 64 c.loop-rest.rest in
-    let lowest-in-set : lowest ≤ c.args.n =
-        lowest_le c.args.n c.loop-rest.rest (omega arith) (omega arith) (omega arith) in
-    let goes-low : get_or c.args.table.now (c.args.at + lowest) 0 ≤ c.args.n =
-        c.requires.by_index lowest lowest-in-set in
+loop-rest-preserved c =
     let a = c.args in
     let w = c.loop-rest in
     let f : ℕ → ℕ = λ k. get_or a.table.now (a.at + k) 0 in
     let pos : 0 < w.rest = omega arith in
     let small : w.rest < 2 ^ suc a.n = omega arith in
-    let few : a.n ≤ 32 = omega arith in (
+    let few : a.n ≤ 32 = omega arith in
+    let goes-low = c.requires.by_index _ (lowest_le a.n w.rest pos small few) in (
       omega (arith, rest_less w.rest pos),
       turn_lt a.n f w.rest w.r pos small few goes-low w.invariant.1,
       λ j. w.invariant.2 j ∙ turn a.n f w.rest w.r pos small few goes-low j,
     )
 
 pub returns : goal.returns
-returns c =     let a = c.args in
+returns c =
+    let a = c.args in
     let f : ℕ → ℕ = λ k. get_or a.table.now (a.at + k) 0 in
     let w = c.loop-rest in (
       (λ j.

@@ -8,7 +8,8 @@ use Rattle.matcher.specs.Sets.{stepped}
 use Rattle.matcher.proofs.step.Given as goal
 
 abbrev pub invariant-loop-rest : goal.invariant-loop-rest
-invariant-loop-rest l =     let f : ℕ → ℕ = λ k. get_or l.table (l.at + k) 0 in
+invariant-loop-rest l =
+    let f : ℕ → ℕ = λ k. get_or l.table (l.at + k) 0 in
     (l.rest ≤ l.mask) × (l.r < 2 ^ suc l.n) × ((j : ℕ) → stepped l.n f (bit l.mask) j ≡ bit l.r j || stepped l.n f (bit l.rest) j)
 
 abbrev pub decreases-loop-rest : goal.decreases-loop-rest

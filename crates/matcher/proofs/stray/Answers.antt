@@ -11,13 +11,15 @@ use Rattle.matcher.proofs.stray.Goals as goal
 
 pub returns-then-cut-n-gt0 : goal.returns-then-cut-n-gt0
 unfolding stray
-returns-then-cut-n-gt0 c =     let a = c.args in
+returns-then-cut-n-gt0 c =
+    let a = c.args in
     sym (ap (λ (b : Bool). b || leb (2 ^ suc (suc a.n)) a.cut.armed)
     (sym (shifted (a.n + 1) (suc a.n) a.cut.mask (omega arith)) ∙ lt-ltb 0 (a.cut.mask / 2 ^ (a.n + 1)) c.if-cut-n-gt0.true))
 
 pub returns : goal.returns
 unfolding stray
-returns c =     let a = c.args in
+returns c =
+    let a = c.args in
     shifted (a.n + 2) (suc (suc a.n)) a.cut.armed (omega arith)
     ∙ sym (ap (λ (b : Bool). b || leb (2 ^ suc (suc a.n)) a.cut.armed)
     (sym (shifted (a.n + 1) (suc a.n) a.cut.mask (omega arith)) ∙ le-ltb 0 (a.cut.mask / 2 ^ (a.n + 1)) c.if-cut-n-gt0.false))

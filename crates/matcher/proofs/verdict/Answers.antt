@@ -25,23 +25,27 @@ not_there : (m : ℕ) → m ≤ 0 → false ≡ not (eqb m 0)
 not_there m h = sym (le-ltb 0 m h) ∙ some_test m
 
 pub returns-then-cut-eq0 : goal.returns-then-cut-eq0
-returns-then-cut-eq0 c =     let cut = c.args.cut in
+returns-then-cut-eq0 c =
+    let cut = c.args.cut in
     λ p h. verdict-read p cut h false (not (eqb cut.mask 0) || not (eqb (cut.armed / 2) 0)) (even cut.armed c.if-cut-eq0.true) refl
 
 pub returns-then-cut-gt0 : goal.returns-then-cut-gt0
-returns-then-cut-gt0 c =     let cut = c.args.cut in
+returns-then-cut-gt0 c =
+    let cut = c.args.cut in
     λ p h.
     verdict-read p cut h true true (odd cut.armed c.if-cut-eq0.false)
     (ap (λ (c : Bool). c || not (eqb (cut.armed / 2) 0)) (there cut.mask c.if-cut-gt0.true))
 
 pub returns-then-cut-gt0-2 : goal.returns-then-cut-gt0-2
-returns-then-cut-gt0-2 c =     let cut = c.args.cut in
+returns-then-cut-gt0-2 c =
+    let cut = c.args.cut in
     λ p h.
     verdict-read p cut h true true (odd cut.armed c.if-cut-eq0.false)
     (sym (or-true (not (eqb cut.mask 0))) ∙ ap (λ (c : Bool). not (eqb cut.mask 0) || c) (there (cut.armed / 2) c.if-cut-gt0-2.true))
 
 pub returns : goal.returns
-returns c =     let cut = c.args.cut in
+returns c =
+    let cut = c.args.cut in
     λ p h.
     verdict-read p cut h true false (odd cut.armed c.if-cut-eq0.false)
     (ap₂ (λ (a c : Bool). a || c) (not_there cut.mask c.if-cut-gt0.false) (not_there (cut.armed / 2) c.if-cut-gt0-2.false))

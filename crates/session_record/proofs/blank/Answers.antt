@@ -6,7 +6,8 @@ use Rattle.session_record.specs.Lent.{of_arrays}
 use Rattle.session_record.proofs.blank.Goals as goal
 
 pub returns : goal.returns
-returns c =     let a = c.args in
+returns c =
+    let a = c.args in
     c.of_arrays.ensures
     ∙ (λ i.
     of_arrays a.p (replicate 65 0) (replicate 65 0) (a.first.mask ∷ replicate 64 0) (a.first.armed ∷ replicate 64 0)

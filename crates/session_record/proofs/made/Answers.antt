@@ -5,4 +5,4 @@ use Rattle.session_record.proofs.Making.{packed_in}
 use Rattle.session_record.proofs.made.Goals as goal
 
 pub returns : goal.returns
-returns c =     c.stored.ensures ∙ packed_in (memory c.args.p c.args.rows.now c.args.status) c.requires c.cuts_in_use-cuts.result c.cuts_in_use-cuts.ensures.0
+returns c = c.stored.ensures ∙ packed_in (memory c.args.p c.args.rows.now c.args.status) c.requires c.cuts_in_use-cuts.result c.cuts_in_use-cuts.ensures.0

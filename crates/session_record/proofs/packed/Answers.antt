@@ -12,15 +12,13 @@ use borrow.Author.Rules.{rules}
 use Rattle.session_record.proofs.packed.Goals as goal
 
 pub loop-i-init : goal.loop-i-init
-loop-i-init c = 
-    let words : ℕ → ℕ → ℕ =
-        λ k. word c.args.rows.now c.args.span k in
+loop-i-init c =
+    let words : ℕ → ℕ → ℕ = λ k. word c.args.rows.now c.args.span k in
     (search rules, filled_none 0 0 (words c.args.k) (replicate 65 0), filled_none 0 0 (words (c.args.k + 1)) (replicate 65 0))
 
 pub loop-i-preserved : goal.loop-i-preserved
-loop-i-preserved c = 
-    let words : ℕ → ℕ → ℕ =
-        λ k. word c.args.rows.now c.args.span k in
+loop-i-preserved c =
+    let words : ℕ → ℕ → ℕ = λ k. word c.args.rows.now c.args.span k in
     let w = c.loop-i in
     (
       omega arith,
@@ -29,9 +27,8 @@ loop-i-preserved c =
     )
 
 pub returns : goal.returns
-returns c = 
-    let words : ℕ → ℕ → ℕ =
-        λ k. word c.args.rows.now c.args.span k in
+returns c =
+    let words : ℕ → ℕ → ℕ = λ k. word c.args.rows.now c.args.span k in
     let w = c.loop-i in
     let n = c.args.n in
     let end : w.i ≡ n = omega arith in

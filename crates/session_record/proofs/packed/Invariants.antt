@@ -6,7 +6,7 @@ use Rattle.rows.specs.Rows.{word}
 use Rattle.session_record.proofs.packed.Given as goal
 
 abbrev pub invariant-loop-i : goal.invariant-loop-i
-invariant-loop-i l =     (l.i ≤ l.n) × Filled 0 0 l.i (word l.rows l.span l.k) (replicate 65 0) l.first × Filled 0 0 l.i (word l.rows l.span (l.k + 1)) (replicate 65 0) l.second
+invariant-loop-i l = (l.i ≤ l.n) × Filled 0 0 l.i (word l.rows l.span l.k) (replicate 65 0) l.first × Filled 0 0 l.i (word l.rows l.span (l.k + 1)) (replicate 65 0) l.second
 
 abbrev pub decreases-loop-i : goal.decreases-loop-i
 decreases-loop-i l = l.n - l.i

@@ -7,14 +7,16 @@ use Rattle.table.specs.Table.{action_at}
 use Rattle.table.proofs.ends.Goals as goal
 
 pub returns-then-not-same : goal.returns-then-not-same
-returns-then-not-same c =     let s = c.same in
+returns-then-not-same c =
+    let s = c.same in
     let a = c.args in
     let w = c.loop-i in
     ends_mismatch (action_at a.outputs.now a.numbers.now) w.i w.l (search rules) w.invariant.0 s.result s.ensures (ap not c.if-not-same.true)
     ∙ sym w.invariant.2
 
 pub loop-i-preserved : goal.loop-i-preserved
-loop-i-preserved c =     let s = c.same in
+loop-i-preserved c =
+    let s = c.same in
     let a = c.args in
     let w = c.loop-i in (
       search rules,
@@ -24,6 +26,7 @@ loop-i-preserved c =     let s = c.same in
     )
 
 pub returns : goal.returns
-returns c =     let a = c.args in
+returns c =
+    let a = c.args in
     let w = c.loop-i in
     ends-none (action_at a.outputs.now a.numbers.now) w.i w.l (search rules) ∙ sym w.invariant.2

@@ -20,13 +20,15 @@ loop-k-init c = (
 )
 
 pub overflow_cast-falls : goal.overflow_cast-falls
-overflow_cast-falls c =     let a = c.args in
+overflow_cast-falls c =
+    let a = c.args in
     let k = c.loop-k.k in
     let s = action_at a.outputs.now a.numbers.now in
     record { fits = omega (arith, c.fall_back.ensures, fall_back-le s a.n k (s k) (k - 1)) }
 
 pub loop-k-preserved : goal.loop-k-preserved
-loop-k-preserved c =     let a = c.args in
+loop-k-preserved c =
+    let a = c.args in
     let s = action_at a.outputs.now a.numbers.now in
     let w = c.loop-k in (
       search rules,

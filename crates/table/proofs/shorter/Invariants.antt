@@ -6,7 +6,7 @@ use Rattle.table.specs.Table.{action_at, Shorter}
 use Rattle.table.proofs.shorter.Given as goal
 
 abbrev pub invariant-loop-k : goal.invariant-loop-k
-invariant-loop-k l =     (1 ≤ l.k) × (length l.falls ≡ 33) × ((j : ℕ) → 0 < j → j ≤ l.k → Shorter (action_at l.outputs l.numbers) j (get_or l.falls j 0))
+invariant-loop-k l = (1 ≤ l.k) × (length l.falls ≡ 33) × ((j : ℕ) → 0 < j → j ≤ l.k → Shorter (action_at l.outputs l.numbers) j (get_or l.falls j 0))
 
 abbrev pub decreases-loop-k : goal.decreases-loop-k
 decreases-loop-k l = l.n - l.k

@@ -6,7 +6,8 @@ use Rattle.table.proofs.FromArrays.{is_table}
 use Rattle.table.proofs.table.Goals as goal
 
 pub table_of-requires : goal.table_of-requires
-table_of-requires c =     let p = c.args.p in
+table_of-requires c =
+    let p = c.args.p in
     record { n_bound = ((taken_bounds p c.requires).most, refl, getD_repeat 0 4257); by_index = taken-number p c.requires }
 
 pub returns : goal.returns

@@ -1,6 +1,6 @@
 -- `table::table_of` meets its contract. The loop: the rows of the first i places are right, and every row is right or still empty.
 use borrow.Author.Rules.{rules}
-use Prim.Native.Nat.{ℕ, ◌+◌, ◌-◌, ◌≤◌, ◌<◌}
+use Prim.Native.Nat.{ℕ, ◌+◌}
 use mathlib.Core.Path.{◌≡◌, sym, subst}
 use mathlib.Core.List.{List}
 use mathlib.Core.Bool.{false}
@@ -11,32 +11,29 @@ use Rattle.table.proofs.table_of.Goals as goal
 use Rattle.table.proofs.table_of.Goals.{then-table-at-eq0, else-table-at-eq0}
 
 pub loop-i-init : goal.loop-i-init
-loop-i-init c =     let a = c.args in
+loop-i-init c =
+    let a = c.args in
     let pre = c.requires.n_bound in
     (omega arith, making_none a.outputs.now a.numbers.now a.n pre.0 a.table.now pre.1 pre.2)
 
 pub bounds-table-at : goal.bounds-table-at
-bounds-table-at c = 
-    let at-le : c.row-at.result ≤ 4224 =
-        let a = c.args in
-    omega (arith, c.row-at.ensures, row_le (get_or a.outputs.now c.loop-i.i false) (get_or a.numbers.now c.loop-i.i 0)) in
-    omega (arith, at-le)
+bounds-table-at c =
+    let a = c.args in
+    omega (arith, c.row-at.ensures, row_le (get_or a.outputs.now c.loop-i.i false) (get_or a.numbers.now c.loop-i.i 0))
 
 pub fill_row-requires : goal.fill_row-requires
-fill_row-requires c =     record { n_bound = (omega arith, c.loop-i.invariant.1.long); by_index = c.shorter-falls.ensures }
+fill_row-requires c = record { n_bound = (omega arith, c.loop-i.invariant.1.long); by_index = c.shorter-falls.ensures }
 
 pub loop-i-preserved : goal.loop-i-preserved
 loop-i-preserved c =
-    let named : c.loop-i.i < c.args.n → get_or c.args.numbers.now c.loop-i.i 0 ≤ 63 =
-        λ h. c.requires.by_index c.loop-i.i h in
     let a = c.args in
     let w = c.loop-i in (
       search rules,
       elim c.if-table-at-eq0.branch [
-        then-table-at-eq0 d ↦
+        | then-table-at-eq0 d ↦
             subst (λ (t : List ℕ). Making a.outputs.now a.numbers.now a.n (w.i + 1) t) (sym d.table-is)
             (making_filled a.outputs.now a.numbers.now a.n (omega arith) w.i w.table d.fill_row.new.table w.invariant.1
-            (named (omega arith)) d.fill_row.ensures)
+            (c.requires.by_index w.i (omega arith)) d.fill_row.ensures)
         | else-table-at-eq0 d ↦
             subst (λ (t : List ℕ). Making a.outputs.now a.numbers.now a.n (w.i + 1) t) (sym d.table-is)
             (making_left a.outputs.now a.numbers.now a.n (omega arith) w.i w.table w.invariant.1 (omega arith)
@@ -45,6 +42,7 @@ loop-i-preserved c =
     )
 
 pub returns : goal.returns
-returns c =     let a = c.args in
+returns c =
+    let a = c.args in
     let w = c.loop-i in
     made a.outputs.now a.numbers.now a.n w.i w.table c.loop-i-test.false w.invariant.1
