@@ -17,29 +17,23 @@ case_known {m} {after} {a = a} e h = subst (λ (r : RecordRead). Takes m (case_a
 call_takes : {m after : Memory} {c : Call} {a : Answer} → Advanced m c a after → Takes m (ReadAs.call c) a after
 call_takes h = record { taken = h.stepped; ready = h.ready }
 
+-- what is answered with no step leaves the memory as it was
+stays : {m : Memory} {x : ReadAs} (made : Status → Memory) {r t : Reply} → r ≡ t → Takes m x t.answer (made t.status) → Takes m x r.answer (made r.status)
+stays {m} {x} made e h = subst (λ (y : Reply). Takes m x y.answer (made y.status)) (sym e) h
+
 pub returns-in-Input : goal.returns-in-Input
-returns-in-Input c = case_known c.read-1.given.1 (call_takes c.line.ensures)
+returns-in-Input c = case_known c.in-Input.is (call_takes c.line.ensures)
 
 pub returns-in-Output : goal.returns-in-Output
-returns-in-Output c = case_known c.read-in-Output-1.given.1 (call_takes c.line-in-Output.ensures)
+returns-in-Output c = case_known c.in-Output.is (call_takes c.line-in-Output.ensures)
 
 pub returns-in-Gap : goal.returns-in-Gap
-returns-in-Gap c = case_known c.read-in-Gap-1.given.1 (call_takes c.mark.ensures)
+returns-in-Gap c = case_known c.in-Gap.is (call_takes c.mark.ensures)
 
 pub returns-in-End : goal.returns-in-End
 returns-in-End c =
-    let as_lent : Status → Memory = memory c.args.p c.args.rows.now in
-    let entry : Memory = as_lent c.args.status in
-    let stays : {r t : Reply} → r ≡ t → Takes entry (case_as c.args.read) t.answer (as_lent t.status)
-    → Takes entry (case_as c.args.read) r.answer (as_lent r.status) =
-        λ e h. subst (λ (x : Reply). Takes entry (case_as c.args.read) x.answer (as_lent x.status)) (sym e) h in
-    stays c.unmoved.ensures (case_known c.enum_told-1.given.1 (record { taken = refl; ready = c.requires.0 }))
+    stays (memory c.args.p c.args.rows.now) c.unmoved.ensures (case_known c.in-End.is (record { taken = refl; ready = c.requires.0 }))
 
 pub returns-in-Refused : goal.returns-in-Refused
 returns-in-Refused c =
-    let as_lent : Status → Memory = memory c.args.p c.args.rows.now in
-    let entry : Memory = as_lent c.args.status in
-    let stays : {r t : Reply} → r ≡ t → Takes entry (case_as c.args.read) t.answer (as_lent t.status)
-    → Takes entry (case_as c.args.read) r.answer (as_lent r.status) =
-        λ e h. subst (λ (x : Reply). Takes entry (case_as c.args.read) x.answer (as_lent x.status)) (sym e) h in
-    stays c.unmoved-in-Refused.ensures (case_known c.read-in-Refused-1.given.1 (record { taken = refl; ready = c.requires.0 }))
+    stays (memory c.args.p c.args.rows.now) c.unmoved-in-Refused.ensures (case_known c.in-Refused.is (record { taken = refl; ready = c.requires.0 }))

@@ -9,16 +9,16 @@ pub returns-then-refusal-ne0 : goal.returns-then-refusal-ne0
 returns-then-refusal-ne0 c = sym (unless_kept _ _ _ c.if-refusal-ne0.true)
 
 pub returns-in-Input : goal.returns-in-Input
-returns-in-Input c = kind_known (kind_turn _) _ c.if-refusal-ne0.false c.enum_told-1.given.1 c.took.ensures
+returns-in-Input c = kind_known (kind_turn _) _ c.if-refusal-ne0.false c.in-Input.is c.took.ensures
 
 pub returns-in-Output : goal.returns-in-Output
-returns-in-Output c = kind_known (kind_turn _) _ c.if-refusal-ne0.false c.enum_told-in-Output-1.given.1 c.took-in-Output.ensures
+returns-in-Output c = kind_known (kind_turn _) _ c.if-refusal-ne0.false c.in-Output.is c.took-in-Output.ensures
 
 pub returns-in-Gap : goal.returns-in-Gap
-returns-in-Gap c = kind_known (kind_turn _) _ c.if-refusal-ne0.false c.read-1.given.1 c.took-in-Gap.ensures
+returns-in-Gap c = kind_known (kind_turn _) _ c.if-refusal-ne0.false c.in-Gap.is c.took-in-Gap.ensures
 
 pub returns-in-End : goal.returns-in-End
-returns-in-End c = kind_known (kind_turn _) _ c.if-refusal-ne0.false c.enum_told-in-End-1.given.1 refl
+returns-in-End c = kind_known (kind_turn _) _ c.if-refusal-ne0.false c.in-End.is refl
 
 pub returns-in-Refused : goal.returns-in-Refused
-returns-in-Refused c = kind_known (kind_turn _) _ c.if-refusal-ne0.false c.read-in-Refused-1.given.1 refl
+returns-in-Refused c = kind_known (kind_turn _) _ c.if-refusal-ne0.false c.in-Refused.is refl

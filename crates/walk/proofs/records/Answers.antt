@@ -7,7 +7,7 @@ use native.Mathlib.Omega.{arith}
 use borrow.Author.Rules.{rules}
 use Rattle.held.specs.declared.Status.{Status}
 use Rattle.session_record.specs.Lent.{Memory, memory}
-use Rattle.walk.specs.declared.Did.{Did}
+use Rattle.walk.specs.declared.Did.TheVariants.{Took, Ended, Not}
 use Rattle.walk.specs.declared.Went.{Went}
 use Rattle.walk.specs.Lent.{HasGone}
 use Rattle.walk.proofs.Dids.{Turned, read-turned}
@@ -27,85 +27,52 @@ pub slice_bounds-read_record-start : goal.slice_bounds-read_record-start
 slice_bounds-read_record-start c = omega (arith, c.loop-taken.invariant.0.inside)
 
 pub take-told-requires : goal.take-told-requires
-take-told-requires c =
-    (c.loop-taken.invariant.0.ready, c.requires.1)
+take-told-requires c = (c.loop-taken.invariant.0.ready, c.requires.1)
 
 pub overflow_add-at : goal.overflow_add-at
 overflow_add-at c =
-    let start : Memory = let w = c.loop-taken in memory c.args.p w.rows w.here in
+    let w = c.loop-taken in
+    let start : Memory = memory c.args.p w.rows w.here in
     let given : Status → Memory = memory c.args.p c.take-told.new.rows in
     let next : Memory = given c.take-told.result.status in
-    let turned : {did : Did} → c.done-t.result.did ≡ did
-    → Turned start c.loop-taken.lost (drop c.loop-taken.at c.args.trace.now) did next c.done-t.result.lost =
-        λ e. turned-part c.args.trace.now c.loop-taken.at e
-    (read-turned start _ _ c.read_record-read.ensures c.take-told.result.answer next c.take-told.ensures
-    c.loop-taken.lost c.done-t.result c.done-t.ensures) in
-    let w = c.loop-taken in
-    let h = going_took w.invariant.0 _ _ c.loop-taken-test.true (turned c.enum_told-1.given.1) in
-    omega (arith, h.inside, c.well_formed.1.1.1.1.0)
-
-pub overflow_add-taken : goal.overflow_add-taken
-overflow_add-taken c = omega (arith, c.loop-taken-test.true, c.ranges.budget)
-
-pub loop-taken-smaller : goal.loop-taken-smaller
-loop-taken-smaller c = omega arith
+    let turned : Turned start w.lost (drop w.at c.args.trace.now) Took next c.done-t.result.lost =
+        turned-part c.args.trace.now w.at c.in-Took.is
+        (read-turned start _ _ c.read_record-read.ensures c.take-told.result.answer next c.take-told.ensures w.lost c.done-t.result c.done-t.ensures) in
+    let h = going_took w.invariant.0 _ _ c.loop-taken-test.true turned in
+    omega (arith, h.inside, c.well_formed)
 
 pub loop-taken-preserved : goal.loop-taken-preserved
 loop-taken-preserved c =
-    let start : Memory = let w = c.loop-taken in memory c.args.p w.rows w.here in
-    let given : Status → Memory = memory c.args.p c.take-told.new.rows in
-    let next : Memory = given c.take-told.result.status in
-    let turned : {did : Did} → c.done-t.result.did ≡ did
-    → Turned start c.loop-taken.lost (drop c.loop-taken.at c.args.trace.now) did next c.done-t.result.lost =
-        λ e. turned-part c.args.trace.now c.loop-taken.at e
-    (read-turned start _ _ c.read_record-read.ensures c.take-told.result.answer next c.take-told.ensures
-    c.loop-taken.lost c.done-t.result c.done-t.ensures) in
-    let tall : length next.rows ≡ length c.args.rows.now = search rules in
     let w = c.loop-taken in
-    (going_took w.invariant.0 _ _ c.loop-taken-test.true (turned c.enum_told-1.given.1), tall)
-
-pub shape_of-rows-in-Ended : goal.shape_of-rows-in-Ended
-shape_of-rows-in-Ended c =
+    let start : Memory = memory c.args.p w.rows w.here in
     let given : Status → Memory = memory c.args.p c.take-told.new.rows in
     let next : Memory = given c.take-told.result.status in
-    let tall : length next.rows ≡ length c.args.rows.now = search rules in
-    tall
+    let turned : Turned start w.lost (drop w.at c.args.trace.now) Took next c.done-t.result.lost =
+        turned-part c.args.trace.now w.at c.in-Took.is
+        (read-turned start _ _ c.read_record-read.ensures c.take-told.result.answer next c.take-told.ensures w.lost c.done-t.result c.done-t.ensures) in
+    (going_took w.invariant.0 _ _ c.loop-taken-test.true turned, search rules)
 
 pub returns-in-Ended : goal.returns-in-Ended
 returns-in-Ended c =
-    let start : Memory = let w = c.loop-taken in memory c.args.p w.rows w.here in
-    let given : Status → Memory = memory c.args.p c.take-told.new.rows in
-    let next : Memory = given c.take-told.result.status in
-    let turned : {did : Did} → c.done-t.result.did ≡ did
-    → Turned start c.loop-taken.lost (drop c.loop-taken.at c.args.trace.now) did next c.done-t.result.lost =
-        λ e. turned-part c.args.trace.now c.loop-taken.at e
-    (read-turned start _ _ c.read_record-read.ensures c.take-told.result.answer next c.take-told.ensures
-    c.loop-taken.lost c.done-t.result c.done-t.ensures) in
     let w = c.loop-taken in
-    as_gone given c.gone.ensures
-    (going_ended w.invariant.0 _ _ c.loop-taken-test.true (turned c.enum_told-in-Ended-1.given.1))
-
-pub shape_of-rows-in-Not : goal.shape_of-rows-in-Not
-shape_of-rows-in-Not c =
+    let start : Memory = memory c.args.p w.rows w.here in
     let given : Status → Memory = memory c.args.p c.take-told.new.rows in
     let next : Memory = given c.take-told.result.status in
-    let tall : length next.rows ≡ length c.args.rows.now = search rules in
-    tall
+    let turned : Turned start w.lost (drop w.at c.args.trace.now) Ended next c.done-t.result.lost =
+        turned-part c.args.trace.now w.at c.in-Ended.is
+        (read-turned start _ _ c.read_record-read.ensures c.take-told.result.answer next c.take-told.ensures w.lost c.done-t.result c.done-t.ensures) in
+    as_gone given c.gone.ensures (going_ended w.invariant.0 _ _ c.loop-taken-test.true turned)
 
 pub returns-in-Not : goal.returns-in-Not
 returns-in-Not c =
-    let start : Memory = let w = c.loop-taken in memory c.args.p w.rows w.here in
+    let w = c.loop-taken in
+    let start : Memory = memory c.args.p w.rows w.here in
     let given : Status → Memory = memory c.args.p c.take-told.new.rows in
     let next : Memory = given c.take-told.result.status in
-    let turned : {did : Did} → c.done-t.result.did ≡ did
-    → Turned start c.loop-taken.lost (drop c.loop-taken.at c.args.trace.now) did next c.done-t.result.lost =
-        λ e. turned-part c.args.trace.now c.loop-taken.at e
-    (read-turned start _ _ c.read_record-read.ensures c.take-told.result.answer next c.take-told.ensures
-    c.loop-taken.lost c.done-t.result c.done-t.ensures) in
-    let w = c.loop-taken in
-    as_gone given c.gone-in-Not.ensures
-    (going_refused w.invariant.0 _ _ _ c.loop-taken-test.true (turned c.did-1.given.1))
+    let turned : Turned start w.lost (drop w.at c.args.trace.now) (Not c.in-Not.number) next c.done-t.result.lost =
+        turned-part c.args.trace.now w.at c.in-Not.is
+        (read-turned start _ _ c.read_record-read.ensures c.take-told.result.answer next c.take-told.ensures w.lost c.done-t.result c.done-t.ensures) in
+    as_gone given c.gone-in-Not.ensures (going_refused w.invariant.0 _ _ _ c.loop-taken-test.true turned)
 
 pub returns : goal.returns
-returns c =
-    as_gone (memory c.args.p c.loop-taken.rows) c.gone-2.ensures (going_done c.loop-taken.invariant.0 c.loop-taken-test.false)
+returns c = as_gone (memory c.args.p c.loop-taken.rows) c.gone-2.ensures (going_done c.loop-taken.invariant.0 c.loop-taken-test.false)
