@@ -1,7 +1,7 @@
 /*
  * Judges one stretch: judge PROPERTY TRACE, two files of packed bytes. On x86-64, from the top folder:
  *
- *   rt staticlib stretch
+ *   tools/archive
  *   cc -O2 -I include examples/judge.c target/staticlib/libstretch.a -o target/judge
  *   tools/pack --property samples/switch.txt >target/property
  *   tools/pack --trace samples/switch.txt >target/trace

@@ -3,7 +3,7 @@
 
     tests/calls.py                      crates/calls/stdin is this script, and crates/calls/stdout meets every expectation
     tests/calls.py --write [PROGRAM..]  runs the program on the script, checks what it prints, and writes both files if it holds;
-                                        target/bin/calls, run as tools/listing runs its own, unless a program is named
+                                        target/bin/calls, built and run as tools/listing builds and runs its own, unless a program is named
 
 Each call of the script carries the refusal that the table of refusals gives it, written by hand, and verdicts where they
 matter; so are orders and moments. Packed forms, held stamps, counts, latest stamps, blindness and cuts are those of
@@ -11,11 +11,11 @@ tests/rules.py, by one step over cuts and in short runs also by listing every or
 other numbers 0, and its session, buffer or lists as they were."""
 import os
 import re
-import shlex
 import subprocess
 import sys
 
 sys.dont_write_bytecode = True
+import logs  # noqa: E402
 import rules  # noqa: E402
 from rules import END_RECORD as END, LIMIT, TAP_END, TURN, pack_record as rec, pack_tap as tap  # noqa: E402
 
@@ -1285,19 +1285,12 @@ def check(text):
     return wrong == 0
 
 
-def program():
-    """target/bin/calls, run as the printing program is."""
-    listing = subprocess.run([os.path.join(TOP, "tools", "listing"), "--command"], stdout=subprocess.PIPE, check=True)
-    words = shlex.split(listing.stdout.decode())
-    return words[:-1] + [os.path.join(os.path.dirname(words[-1]), "calls")]
-
-
 def main():
     build()
     script = b"".join(call[1] for call in CALLS) + b"\0"
     stdin, stdout = (os.path.join(TOP, "crates/calls", part) for part in ("stdin", "stdout"))
     if sys.argv[1:2] == ["--write"]:
-        run = subprocess.run(sys.argv[2:] or program(), input=script, stdout=subprocess.PIPE, check=True)
+        run = subprocess.run(sys.argv[2:] or logs.console_command(), input=script, stdout=subprocess.PIPE, check=True)
         if not check(run.stdout):
             sys.exit(1)
         for path, data in ((stdin, script), (stdout, run.stdout)):

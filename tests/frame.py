@@ -13,11 +13,9 @@ import time
 import traceback
 
 import logs
+from logs import building
 
 TOP = logs.TOP
-sys.path.insert(1, os.path.join(TOP, 'tools'))
-import building  # noqa: E402
-
 KIT = 'a-kit logic 0123'
 PROGRAMS = 'listing', 'named_listing', 'tap_listing', 'show_why'
 LISTING, NAMES, PACK, UNPACK = TOOLS = [os.path.join(TOP, 'tools', name) for name in ('listing', 'names', 'pack', 'unpack')]

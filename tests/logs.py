@@ -9,6 +9,9 @@ import tempfile
 import rules
 
 TOP = os.path.dirname(os.path.dirname(os.path.abspath(__file__)))
+sys.path.insert(1, os.path.join(TOP, 'tools'))
+import building  # noqa: E402
+
 TOOL = os.path.join(TOP, 'tools', 'listing')
 
 
@@ -34,6 +37,16 @@ def size_read(data, want, size=6):
         return len(data)
     front = (122 + 7 * (data[0] >> 2) + 7) // 8
     return front if rules.read_property(data)[0] else front + size * (int(last[1]) + 1)
+
+
+def console_command():
+    """The console is run as the printing program is, once it is proved and built in the same way."""
+    words = listing_command()
+    try:
+        building.bring_up_to_date('calls')
+    except building.Failed as why:
+        sys.exit(f'there is no console: {why}')
+    return words[:-1] + [os.path.join(os.path.dirname(words[-1]), 'calls')]
 
 
 class Runs:

@@ -9,7 +9,6 @@ their records are compared place by place; and through the judge. Then session r
 inputs open and something in the places not in use, get lines, marks and walks, taken and refused, by the checks of tests/calls.py."""
 import functools
 import itertools
-import os
 import random
 import subprocess
 import sys
@@ -166,7 +165,7 @@ def main():
     count = int(sys.argv[1]) if len(sys.argv) > 1 else 6
     rng = random.Random(int(sys.argv[2]) if len(sys.argv) > 2 else 20260109)
     program = logs.listing_command()
-    console = Console(program[:-1] + [os.path.join(os.path.dirname(program[-1]), "calls")])
+    console = Console(logs.console_command())
     crowded, verdicts = 0, [0] * 4
     for i in range(count):
         p = drawn_property(rng, (1, 2, 6, 32)[i % 4])

@@ -2,8 +2,8 @@
 """The orders of document 02, CR 6: drawn calls of `why::explain` through the console (letter Y of docs/CALLS.md), every printed byte
 compared with a reading of the rules that shares nothing with the crates.
 
-    tests/why.py [RUNS [SEED [COMMAND..]]]      exits 1 at a difference; without COMMAND it is target/bin/calls, which `rt check
-                                                calls` builds, run as tools/listing runs its own
+    tests/why.py [RUNS [SEED [COMMAND..]]]      exits 1 at a difference; without COMMAND it is target/bin/calls, built and run
+                                                as tools/listing builds and runs its own
 
 RUNS runs have up to 8 lines. All interleavings of their inputs and outputs are listed, by kind the first one first; those stay to
 which moments can be given; of those that break and of those that do not the first is taken, with its earliest moments. The
@@ -15,7 +15,6 @@ of all lines with the earliest moments, that it breaks or does not, and that ver
 other (tests/rules.py)."""
 import functools
 import itertools
-import os
 import random
 import subprocess
 import sys
@@ -396,14 +395,6 @@ def at_the_limits():
 # ---- the program
 
 
-def command():
-    words = logs.listing_command()
-    words = words[:-1] + [os.path.join(os.path.dirname(words[-1]), 'calls')]
-    if not os.path.exists(words[-1]):
-        sys.exit(f'why: there is no {words[-1]}: rt check calls builds it')
-    return words
-
-
 def run_program(words, calls):
     """What it prints for each, five lines."""
     script = b''.join(calls) + b'\0'
@@ -451,7 +442,7 @@ class Checks:
 def main():
     given = sys.argv[1:]
     count, seed = int(given[0]) if given else 20_000, int(given[1]) if given[1:] else 20260105
-    words = given[2:] or command()
+    words = given[2:] or logs.console_command()
     sys.setrecursionlimit(10_000)  # a call or two for each line
     rng = random.Random(seed)
     fixed = list(at_the_limits())
