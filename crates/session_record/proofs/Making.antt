@@ -20,7 +20,7 @@ use Rattle.matcher.specs.declared.Cut.{Cut}
 use Rattle.matcher.specs.Sets.{cut_of}
 use Rattle.matcher.proofs.Words.{cut_back}
 use Rattle.rows.specs.declared.Span.{Span}
-use Rattle.rows.specs.Rows.{spanning, none, Within, Room}
+use Rattle.rows.specs.Rows.{spanning, Within, Room}
 use Rattle.clock.specs.declared.Clock.{Clock}
 use Rattle.cuts.specs.Steps.{front_none, fresh_by}
 use Rattle.cuts.specs.Fronts.{cut_at, set_at, held_at, front_of, sets_of}

@@ -1,5 +1,4 @@
 -- `cuts::strays` meets its contract. The loop: no cut passed is stray.
-use Prim.Native.Nat.{◌-◌}
 use mathlib.Core.Path.{◌≡◌, sym, ap, ◌∙◌}
 use mathlib.Core.Bool.{false}
 use native.Mathlib.Nat.{not-suc-le-zero}

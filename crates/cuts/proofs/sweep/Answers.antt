@@ -1,5 +1,5 @@
 -- `cuts::sweep` meets its contract. The loop: the cuts up to i have their new sets, `cut` is that of i, and `held` and `input` are open input i.
-use Prim.Native.Nat.{ℕ, ◌+◌, ◌*◌, ◌-◌, ◌≤◌, ◌<◌}
+use Prim.Native.Nat.{ℕ, ◌+◌, ◌*◌, ◌≤◌, ◌<◌}
 use mathlib.Core.Path.{◌≡◌, refl, sym, ap, subst, ◌∙◌}
 use mathlib.Core.List.{List}
 use mathlib.Core.Bool.{true}
@@ -14,7 +14,7 @@ use Rattle.matcher.specs.declared.Cut.{Cut}
 use Rattle.matcher.specs.Sets.{set_of, Fits}
 use Rattle.cuts.specs.Steps.{line_of}
 use Rattle.cuts.specs.Fronts.{cut_at, with_cut}
-use Rattle.cuts.proofs.Sweeps.{cut_tall, cut_room, cut_others, cut_here, cut_there, Sweeping, new_set, new_set_none, sweeping_first, sweeping_more, new_set_next, rows-swept}
+use Rattle.cuts.proofs.Sweeps.{cut_tall, cut_room, cut_others, cut_here, cut_there, Sweeping, new_set_none, sweeping_first, sweeping_more, new_set_next, rows-swept}
 use Rattle.cuts.proofs.sweep.Goals as goal
 
 -- Rows with one cut stored have room, and with the first stored, what stands there of an open input and of a later cut is as it was.

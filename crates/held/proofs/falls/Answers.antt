@@ -1,5 +1,4 @@
 -- `held::falls` meets its contract. The loop's invariant: no stamp passed is above the next.
-use Prim.Native.Nat.{◌-◌}
 use mathlib.Core.Path.{◌≡◌, sym, ap₂, ◌∙◌}
 use native.Mathlib.Nat.{not-suc-le-zero}
 use native.Mathlib.Omega.{arith}
@@ -17,7 +16,7 @@ loop-i-init c = (search rules, λ k h. absurd (not-suc-le-zero h))
 pub returns-then-next_stamp-word : goal.returns-then-next_stamp-word
 returns-then-next_stamp-word c =
     let compared : above c.args.rows.now c.args.span c.args.latest c.loop-i.i ≡ ltb c.next_stamp.result c.word.result =
-        sym (ap₂ ltb c.next_stamp.ensures c.word.ensures) in
+    sym (ap₂ ltb c.next_stamp.ensures c.word.ensures) in
     let a = c.args in
     sym
     (below_here a.span.count (above a.rows.now a.span a.latest) c.loop-i.i (omega arith)
@@ -26,7 +25,7 @@ returns-then-next_stamp-word c =
 pub loop-i-preserved : goal.loop-i-preserved
 loop-i-preserved c =
     let compared : above c.args.rows.now c.args.span c.args.latest c.loop-i.i ≡ ltb c.next_stamp.result c.word.result =
-        sym (ap₂ ltb c.next_stamp.ensures c.word.ensures) in
+    sym (ap₂ ltb c.next_stamp.ensures c.word.ensures) in
     (search rules, below_more _ _ c.loop-i.invariant.1 (compared ∙ le-ltb _ _ c.if-next_stamp-word.false))
 
 pub returns : goal.returns

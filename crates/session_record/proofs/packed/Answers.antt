@@ -1,5 +1,5 @@
 -- `session_record::packed` meets its contract. The loop: the first i places of both are filled.
-use Prim.Native.Nat.{ℕ, ◌+◌, ◌-◌}
+use Prim.Native.Nat.{ℕ, ◌+◌}
 use mathlib.Core.Path.{◌≡◌, ap₂, subst}
 use mathlib.Core.List.{List}
 use native.Mathlib.Omega.{arith}
@@ -19,8 +19,7 @@ loop-i-init c =
 pub loop-i-preserved : goal.loop-i-preserved
 loop-i-preserved c =
     let words : ℕ → ℕ → ℕ = λ k. word c.args.rows.now c.args.span k in
-    let w = c.loop-i in
-    (
+    let w = c.loop-i in (
       omega arith,
       filled_more 0 0 (words c.args.k) (replicate 65 0) w.i w.first c.word.result (omega arith) (omega arith) w.invariant.1 c.word.ensures,
       filled_more 0 0 (words (c.args.k + 1)) (replicate 65 0) w.i w.second c.word-in-loop-i.result (omega arith) (omega arith) w.invariant.2 c.word-in-loop-i.ensures,
