@@ -4,15 +4,16 @@ use Rattle.first_order.proofs.Writing.{numbers-within, both_written}
 use Rattle.first_order.proofs.write.Goals as goal
 
 pub earliest-requires : goal.earliest-requires
-earliest-requires c =     let a = c.args in
-    let f = c.requires.0.2 in (
-      (c.requires.0.0, f.sized.output_long, f.sized.stamps_low),
-      (
-        (omega (arith, c.requires.1.0, c.order.ensures.long), c.requires.1.1),
-        numbers-within a.p a.output.now a.action.now a.stamp.now a.breaking f _ _ c.order.ensures,
-      ),
-    )
+earliest-requires c =
+    let a = c.args in
+    let f = c.requires.p_value.2 in
+    record {
+      p_value = (c.requires.p_value.0, f.sized.output_long, f.sized.stamps_low);
+      stamp_in_bounds = (omega (arith, c.requires.stamp_in_bounds.0, c.order.ensures.long), c.requires.stamp_in_bounds.1);
+      by_index = numbers-within a.p a.output.now a.action.now a.stamp.now a.breaking f _ _ c.order.ensures;
+    }
 
 pub returns : goal.returns
-returns c =     let a = c.args in
-    both_written a.p a.output.now a.action.now a.stamp.now a.breaking c.requires.0.2 _ _ c.order.ensures _ _ c.earliest.ensures
+returns c =
+    let a = c.args in
+    both_written a.p a.output.now a.action.now a.stamp.now a.breaking c.requires.p_value.2 _ _ c.order.ensures _ _ c.earliest.ensures

@@ -13,20 +13,20 @@ shown number e = ap (λ (y : RecordRead). text_of (front_text number (kind_as y)
 
 pub returns-in-Input : goal.returns-in-Input
 unfolding kind_as action_as
-returns-in-Input c = c.front.ensures ∙ shown c.args.number (sym c.read-1.given.1)
+returns-in-Input c = c.front.ensures ∙ shown c.args.number (sym c.in-Input.is)
 
 pub returns-in-Output : goal.returns-in-Output
 unfolding kind_as action_as
-returns-in-Output c = c.front-in-Output.ensures ∙ shown c.args.number (sym c.read-in-Output-1.given.1)
+returns-in-Output c = c.front-in-Output.ensures ∙ shown c.args.number (sym c.in-Output.is)
 
 pub returns-in-Gap : goal.returns-in-Gap
 unfolding kind_as action_as
-returns-in-Gap c = c.front-in-Gap.ensures ∙ shown c.args.number (sym c.read-in-Gap-1.given.1)
+returns-in-Gap c = c.front-in-Gap.ensures ∙ shown c.args.number (sym c.in-Gap.is)
 
 pub returns-in-End : goal.returns-in-End
 unfolding kind_as action_as
-returns-in-End c = c.front-in-End.ensures ∙ shown c.args.number (sym c.enum_told-1.given.1)
+returns-in-End c = c.front-in-End.ensures ∙ shown c.args.number (sym c.in-End.is)
 
 pub returns-in-Refused : goal.returns-in-Refused
 unfolding kind_as action_as
-returns-in-Refused c = c.front-in-Refused.ensures ∙ shown c.args.number (sym c.enum_told-in-Refused-1.given.1)
+returns-in-Refused c = c.front-in-Refused.ensures ∙ shown c.args.number (sym c.in-Refused.is)

@@ -11,20 +11,22 @@ use Rattle.named_text.specs.Text.{named_text_of, inserted}
 use Rattle.named.specs.Insert.{kind_as, action_as}
 use Rattle.named.proofs.Lines.{text-size, name_as_short, front_fits, line-long, with_its_name}
 use Rattle.named.proofs.named_line.Goals as goal
+use Rattle.named.proofs.named_line.Goals.{After-front_of-front}
+
+-- the front is that of the record that was read
+abbrev read : After-front_of-front → RecordRead
+read c = c.read_record-read.result
+
+front_long : (c : After-front_of-front) → c.front_of-front.result.len ≡ length (front_text c.args.number (kind_as (read c)) (action_as (read c)))
+front_long c = text-size c.front_of-front.result _ c.front_of-front.ensures
 
 pub with_name-requires : goal.with_name-requires
-with_name-requires c = 
-    let read : RecordRead =
-        c.read_record-read.result in
-    let number : ℕ =
-        c.args.number in
-    let front_long : c.front_of-front.result.len ≡ length (front_text number (kind_as read) (action_as read)) =
-        text-size c.front_of-front.result _ c.front_of-front.ensures in
+with_name-requires c =
     let a = c.args in
     let r = c.read_record-read.result in (
       omega (
         arith,
-        front_long,
+        front_long (goal.at.with_name-requires c).After-front_of-front,
         front_fits a.site.now a.release.now a.bytes.now a.before a.number a.line c.requires r c.read_record-read.ensures,
       ),
       line-long a.site.now a.release.now a.bytes.now a.before a.number a.line c.requires r c.read_record-read.ensures,
@@ -32,16 +34,10 @@ with_name-requires c =
     )
 
 pub returns : goal.returns
-returns c c = 
-    let read : RecordRead =
-        c.read_record-read.result in
-    let number : ℕ =
-        c.args.number in
-    let front_long : c.front_of-front.result.len ≡ length (front_text number (kind_as read) (action_as read)) =
-        text-size c.front_of-front.result _ c.front_of-front.ensures in
-    let k = c in
-    let a = k.before.before.before.before.args in
-    let r = k.read-record.result in
+returns c l =
+    let a = c.args in
+    let r = c.read_record-read.result in
     c.with_name.ensures
-    ∙ ap₂ (λ (n : ℕ) (name : List ℕ). named_text_of (inserted n name (shown a.line))) front_long c.name_of.ensures
-    ∙ ap named_text_of (with_its_name a.site.now a.release.now a.bytes.now a.before a.number a.line c r k.read-record.ensures)
+    ∙ ap₂ (λ (n : ℕ) (name : List ℕ). named_text_of (inserted n name (shown a.line))) (front_long (goal.at.returns c).After-front_of-front)
+    c.name_of.ensures
+    ∙ ap named_text_of (with_its_name a.site.now a.release.now a.bytes.now a.before a.number a.line l r c.read_record-read.ensures)
