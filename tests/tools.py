@@ -1073,12 +1073,12 @@ def demands_cited(folder):
     """What docs/PROMISES.md names of the demands is what the file of the demands states or hands on."""
     text = contents(os.path.join(TOP, 'docs', 'PROMISES.md')).decode()
     told = text[text.index('- **The demands**'):]
-    told = set(re.findall('`([a-zA-Z0-9-]+)`', told[:told.index('\n\n')])) - {'line', 'mark'}
+    told = set(re.findall('`([a-zA-Z0-9_-]+)`', told[:told.index('\n\n')])) - {'line', 'mark'}
     source = contents(os.path.join(TOP, 'crates', 'demands', 'proofs', 'Demands.antt')).decode()
-    handed = set(re.findall(r'(?m)^ *pub ([a-z][a-zA-Z0-9-]*) :', source))
+    handed = set(re.findall(r'(?m)^ *pub ([a-z][a-zA-Z0-9_-]*) :', source))
     fields = set()
     for record in re.findall(r'(?m)^( *)pub record .*\n((?:\1  .*\n)+)', source):
-        fields |= set(re.findall(r'(?m)^ *pub ([a-z][a-zA-Z0-9-]*) :', record[1]))
+        fields |= set(re.findall(r'(?m)^ *pub ([a-z][a-zA-Z0-9_-]*) :', record[1]))
     for names in re.findall(r'(?m)^pub use .*[{](.*)[}]$', source):
         handed |= {name.split(' as ')[-1].strip() for name in names.split(',')}
     handed -= fields
