@@ -15,7 +15,7 @@ pub enum Event {
     Mark(u8, u64),
 }
 
-// The proved step by value, of either kind: its one contract is all that the walk of `step` has to know.
+// The proved step by value, of either kind: its one contract is all that `step` has to know.
 fn next(s: Session, event: Event) -> Stepped
     ensures { result ≡ stepped_of s (call_of event) }
 {
@@ -26,7 +26,7 @@ fn next(s: Session, event: Event) -> Stepped
 }
 
 // The step on a session that the caller keeps. It looks at nothing in the record: the step by value has given back the record as
-// it was where it refuses. A Rattle function that calls this one would need a walk by hand too; it calls `session` by value.
+// it was where it refuses. What calls a step in Rattle calls `session` by value.
 pub fn step(s: &mut Session, event: Event) -> Answer
     ensures { (result ≡ (stepped_of s.old (call_of event)).answer) × (s.new ≡ (stepped_of s.old (call_of event)).session) }
 {

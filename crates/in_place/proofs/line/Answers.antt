@@ -91,14 +91,14 @@ run_on-requires-2 c =
     let in_time : c.args.stamp ≤ last_stamp = let a = c.args in
     line-limit a.p (held_in entry) a.output a.action a.stamp c.refused-number.result c.refused-number.ensures c.if-number-ne0.false in
     let fits : (let a = c.args in a.status.span.count - c.closed_count-closed.result + cond a.output 0 1 ≤ most_open) =
-        subst (λ (n : ℕ). n ≤ most_open) c.open_after.ensures c.if-open_after-gt-MOST_OPEN.false in
+    subst (λ (n : ℕ). n ≤ most_open) c.open_after.ensures c.if-open_after-gt-MOST_OPEN.false in
     record { usable = (open_usable entry c.requires.0 c.if-clock.false, c.requires.1); closes = (c.closed_count-closed.ensures, in_time, fits) }
 
 pub returns : goal.returns
 returns c =
     let entry : Memory = memory c.args.p c.args.rows.now c.args.status in
     let fits : (let a = c.args in a.status.span.count - c.closed_count-closed.result + cond a.output 0 1 ≤ most_open) =
-        subst (λ (n : ℕ). n ≤ most_open) c.open_after.ensures c.if-open_after-gt-MOST_OPEN.false in
+    subst (λ (n : ℕ). n ≤ most_open) c.open_after.ensures c.if-open_after-gt-MOST_OPEN.false in
     let a = c.args in
     next_leads entry c.requires.0 a.output a.action a.stamp c.refused-number.result c.refused-number.ensures c.if-number-ne0.false c.if-clock.false c.closed_count-closed.result c.closed_count-closed.ensures
     fits c.ticked-after-2.result (c.ticked-after-2.ensures (line_of a.output a.action a.stamp) refl) c.run_on-2.new.rows c.run_on-2.result

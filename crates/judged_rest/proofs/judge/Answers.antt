@@ -1,5 +1,5 @@
 -- `judged_rest::judge` meets its contract. The loop: what the first k lines have come to.
-use Prim.Native.Nat.{ℕ, ◌-◌}
+use Prim.Native.Nat.{ℕ}
 use mathlib.Core.Path.{◌≡◌, refl, sym, ap, subst, ◌∙◌}
 use native.Mathlib.Omega.{arith}
 use lib.ListN.{length, replicate}
@@ -15,7 +15,7 @@ use Rattle.judged_rest.proofs.judge.Goals as goal
 pub put_cut-requires : goal.put_cut-requires
 put_cut-requires c =
     let room : Room (replicate 4 (replicate 65 0)) c.spanning-span.result =
-        subst (Room (replicate 4 (replicate 65 0))) (sym c.spanning-span.ensures)
+    subst (Room (replicate 4 (replicate 65 0))) (sym c.spanning-span.ensures)
     (four_room (replicate 65 0) (replicate 65 0) (replicate 65 0) (replicate 65 0) refl refl refl refl none within_none) in
     (room, omega arith, omega arith)
 
@@ -23,7 +23,7 @@ pub loop-k-init : goal.loop-k-init
 loop-k-init c =
     let run : Lines = lent c.args.output.now c.args.action.now c.args.stamp.now in
     let room : Room (replicate 4 (replicate 65 0)) c.spanning-span.result =
-        subst (Room (replicate 4 (replicate 65 0))) (sym c.spanning-span.ensures)
+    subst (Room (replicate 4 (replicate 65 0))) (sym c.spanning-span.ensures)
     (four_room (replicate 65 0) (replicate 65 0) (replicate 65 0) (replicate 65 0) refl refl refl refl none within_none) in
     let a = c.args in
     let fits = c.requires.p_value.2 in

@@ -28,7 +28,7 @@ returns-then-answer-ne0 c =
     let entry : Memory = memory c.args.p c.args.rows.now c.args.here.status in
     let line : Line = line_of c.args.output c.args.action c.args.stamp in
     let waited : (let a = c.args in waits a.from a.k a.output ≡ true) =
-        sym c.waits.ensures ∙ c.if-not-waits.false in
+    sym c.waits.ensures ∙ c.if-not-waits.false in
     let a = c.args in
     turn_not_taken entry c.requires.0 a.from a.output line a.k a.here.told c.if-before-ne0.false waited _ _ c.line-r.ensures
     c.if-answer-ne0.true _ c.refused.ensures
@@ -38,7 +38,7 @@ returns c =
     let entry : Memory = memory c.args.p c.args.rows.now c.args.here.status in
     let line : Line = line_of c.args.output c.args.action c.args.stamp in
     let waited : (let a = c.args in waits a.from a.k a.output ≡ true) =
-        sym c.waits.ensures ∙ c.if-not-waits.false in
+    sym c.waits.ensures ∙ c.if-not-waits.false in
     let a = c.args in
     turn_taken entry c.requires.0 a.from a.output line a.k a.here.told c.if-before-ne0.false waited _ _ c.line-r.ensures
     c.if-answer-ne0.false _ c.told.ensures

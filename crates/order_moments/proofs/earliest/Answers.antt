@@ -39,8 +39,7 @@ low-requires c = (c.requires.p_value.0, c.requires.p_value.2 _)
 pub moment-requires : goal.moment-requires
 moment-requires c =
     let run : Lines = lent c.args.output.now [] c.args.stamp.now in
-    let at : ℕ → ℕ = λ j. get_or c.args.numbers.now j 0 - 1 in
-    (
+    let at : ℕ → ℕ = λ j. get_or c.args.numbers.now j 0 - 1 in (
       timing_low c.args.p run at c.loop-j.invariant c.loop-j-test.true c.low.result c.low.ensures.0 c.low.ensures.1 c.later-m.result c.later-m.ensures,
       omega (arith, taken_bounds c.args.p c.requires.p_value.0),
     )

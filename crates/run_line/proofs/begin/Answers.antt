@@ -12,9 +12,8 @@ put_cut-requires c =
     (subst (Room c.args.rows.now) (sym c.spanning-span.ensures) c.requires.0, c.requires.1, omega arith)
 
 pub returns : goal.returns
-returns c =
-    (
-      c.spanning-span.ensures,
-      c.put_cut.ensures
-          ∙ ap₂ (λ (x : Span) (y : Cut). with_cut c.args.rows.now x 0 0 y) c.spanning-span.ensures c.start.ensures,
-    )
+returns c = (
+  c.spanning-span.ensures,
+  c.put_cut.ensures
+      ∙ ap₂ (λ (x : Span) (y : Cut). with_cut c.args.rows.now x 0 0 y) c.spanning-span.ensures c.start.ensures,
+)

@@ -22,7 +22,7 @@ mark-told-requires c =
     let fit : out_of_range c.args.s ≡ false = sym c.unfit.ensures ∙ c.if-unfit.false in
     let given : Session = c.args.s in
     let ready : Ready (memory given.property c.rows_of-rows.result given.shared.status) =
-        lent-ready given fit c.rows_of-rows.result c.rows_of-rows.ensures.0 c.rows_of-rows.ensures.2 in
+    lent-ready given fit c.rows_of-rows.result c.rows_of-rows.ensures.0 c.rows_of-rows.ensures.2 in
     ready
 
 pub returns-then-closing-ne0 : goal.returns-then-closing-ne0

@@ -1,8 +1,8 @@
 -- `walk::records` meets its contract. The loop: what has been taken, and what is left of the walk.
-use Prim.Native.Nat.{ℕ, ◌-◌}
+use Prim.Native.Nat.{ℕ}
 use mathlib.Core.Path.{◌≡◌, refl, sym, subst}
 use mathlib.Core.List.{List}
-use lib.ListN.{length, drop}
+use lib.ListN.{drop}
 use native.Mathlib.Omega.{arith}
 use borrow.Author.Rules.{rules}
 use Rattle.held.specs.declared.Status.{Status}
@@ -36,8 +36,8 @@ overflow_add-at c =
     let given : Status → Memory = memory c.args.p c.take-told.new.rows in
     let next : Memory = given c.take-told.result.status in
     let turned : Turned start w.lost (drop w.at c.args.trace.now) Took next c.done-t.result.lost =
-        turned-part c.args.trace.now w.at c.in-Took.is
-        (read-turned start _ _ c.read_record-read.ensures c.take-told.result.answer next c.take-told.ensures w.lost c.done-t.result c.done-t.ensures) in
+    turned-part c.args.trace.now w.at c.in-Took.is
+    (read-turned start _ _ c.read_record-read.ensures c.take-told.result.answer next c.take-told.ensures w.lost c.done-t.result c.done-t.ensures) in
     let h = going_took w.invariant.0 _ _ c.loop-taken-test.true turned in
     omega (arith, h.inside, c.well_formed)
 
@@ -48,8 +48,8 @@ loop-taken-preserved c =
     let given : Status → Memory = memory c.args.p c.take-told.new.rows in
     let next : Memory = given c.take-told.result.status in
     let turned : Turned start w.lost (drop w.at c.args.trace.now) Took next c.done-t.result.lost =
-        turned-part c.args.trace.now w.at c.in-Took.is
-        (read-turned start _ _ c.read_record-read.ensures c.take-told.result.answer next c.take-told.ensures w.lost c.done-t.result c.done-t.ensures) in
+    turned-part c.args.trace.now w.at c.in-Took.is
+    (read-turned start _ _ c.read_record-read.ensures c.take-told.result.answer next c.take-told.ensures w.lost c.done-t.result c.done-t.ensures) in
     (going_took w.invariant.0 _ _ c.loop-taken-test.true turned, search rules)
 
 pub returns-in-Ended : goal.returns-in-Ended
@@ -59,8 +59,8 @@ returns-in-Ended c =
     let given : Status → Memory = memory c.args.p c.take-told.new.rows in
     let next : Memory = given c.take-told.result.status in
     let turned : Turned start w.lost (drop w.at c.args.trace.now) Ended next c.done-t.result.lost =
-        turned-part c.args.trace.now w.at c.in-Ended.is
-        (read-turned start _ _ c.read_record-read.ensures c.take-told.result.answer next c.take-told.ensures w.lost c.done-t.result c.done-t.ensures) in
+    turned-part c.args.trace.now w.at c.in-Ended.is
+    (read-turned start _ _ c.read_record-read.ensures c.take-told.result.answer next c.take-told.ensures w.lost c.done-t.result c.done-t.ensures) in
     as_gone given c.gone.ensures (going_ended w.invariant.0 _ _ c.loop-taken-test.true turned)
 
 pub returns-in-Not : goal.returns-in-Not
@@ -70,8 +70,8 @@ returns-in-Not c =
     let given : Status → Memory = memory c.args.p c.take-told.new.rows in
     let next : Memory = given c.take-told.result.status in
     let turned : Turned start w.lost (drop w.at c.args.trace.now) (Not c.in-Not.number) next c.done-t.result.lost =
-        turned-part c.args.trace.now w.at c.in-Not.is
-        (read-turned start _ _ c.read_record-read.ensures c.take-told.result.answer next c.take-told.ensures w.lost c.done-t.result c.done-t.ensures) in
+    turned-part c.args.trace.now w.at c.in-Not.is
+    (read-turned start _ _ c.read_record-read.ensures c.take-told.result.answer next c.take-told.ensures w.lost c.done-t.result c.done-t.ensures) in
     as_gone given c.gone-in-Not.ensures (going_refused w.invariant.0 _ _ _ c.loop-taken-test.true turned)
 
 pub returns : goal.returns

@@ -29,7 +29,7 @@ records-r-requires c =
     let s = c.args.s in
     let fit : out_of_range s ≡ false = sym c.unfit.ensures ∙ c.if-unfit.false in
     let ready : Ready (memory s.property c.rows_of-rows.result s.shared.status) =
-        lent-ready s fit c.rows_of-rows.result c.rows_of-rows.ensures.0 c.rows_of-rows.ensures.2 in
+    lent-ready s fit c.rows_of-rows.result c.rows_of-rows.ensures.0 c.rows_of-rows.ensures.2 in
     (ready, c.table-table.ensures)
 
 pub returns-then-r-eq0 : goal.returns-then-r-eq0
@@ -42,8 +42,8 @@ returns-then-r-eq0 c =
     let r = c.records-r.result in
     let gone : Walk = record { taken = r.taken; stop = r.stop; read = r.read; session = record_in (memory s.property c.records-r.new.rows r.status) } in
     let walked : walk_on (budget_of budget) (tidied s) bytes ≡ gone =
-        ap₂ (λ (b : ℕ) (l : List (List ℕ)). walk_on b (record_in (memory s.property l s.shared.status)) bytes) (sym c.limited.ensures) (sym c.rows_of-rows.ensures.0)
-        ∙ c.records-r.ensures.walked in
+    ap₂ (λ (b : ℕ) (l : List (List ℕ)). walk_on b (record_in (memory s.property l s.shared.status)) bytes) (sym c.limited.ensures) (sym c.rows_of-rows.ensures.0)
+    ∙ c.records-r.ensures.walked in
     none-taken s fit bytes budget gone walked c.if-r-eq0.true
 
 pub returns : goal.returns
@@ -55,8 +55,8 @@ returns c =
     let r = c.records-r.result in
     let gone : Walk = record { taken = r.taken; stop = r.stop; read = r.read; session = record_in (memory s.property c.records-r.new.rows r.status) } in
     let walked : walk_on (budget_of budget) (tidied s) bytes ≡ gone =
-        ap₂ (λ (b : ℕ) (l : List (List ℕ)). walk_on b (record_in (memory s.property l s.shared.status)) bytes) (sym c.limited.ensures) (sym c.rows_of-rows.ensures.0)
-        ∙ c.records-r.ensures.walked in
+    ap₂ (λ (b : ℕ) (l : List (List ℕ)). walk_on b (record_in (memory s.property l s.shared.status)) bytes) (sym c.limited.ensures) (sym c.rows_of-rows.ensures.0)
+    ∙ c.records-r.ensures.walked in
     ap₂ (λ (n : ℕ) (x : Session). in_numbers (record { taken = r.taken; stop = r.stop; read = r.read; lost = n; session = x }))
     c.records-r.ensures.number c.made.ensures
     ∙ some-taken s fit bytes budget gone walked c.if-r-eq0.false
