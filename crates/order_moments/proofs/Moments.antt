@@ -22,8 +22,11 @@ module _ (m ub : ℕ) (h : m ≤ last_moment) (k : ub ≤ last_bound) where
   as_given : (to_z w64 m -ℤ to_z w64 ub) ≡ (pos m -ℤ pos ub)
   as_given = ap₂ ◌-ℤ◌ (to_z_pos w64 {n = m} (omega arith)) (to_z_pos w64 {n = ub} (omega arith))
 
-  moment_fits : SFits w64 (to_z w64 m -ℤ to_z w64 ub)
+  pub moment_fits : SFits w64 (to_z w64 m -ℤ to_z w64 ub)
   moment_fits = subst (SFits w64) (sym as_given) (record { sfits = omega (arith, minus_mag m ub) })
+
+  pub moment_is : to_z w64 (of_z w64 (to_z w64 m -ℤ to_z w64 ub)) ≡ (pos m -ℤ pos ub)
+  moment_is = to_z-of_z moment_fits ∙ as_given
 
   -- stored as bits and read again
   pub moment_stored : (v : ℤ) → v ≡ (pos m -ℤ pos ub) → to_z w64 (of_z w64 v) ≡ (pos m -ℤ pos ub)
