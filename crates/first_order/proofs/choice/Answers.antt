@@ -5,7 +5,6 @@ use mathlib.Core.Bool.{true}
 use native.Mathlib.Omega.{arith}
 use lib.ListN.{length, get_or}
 use borrow.Author.Tests.{le-leb, lt-leb, lt-ltb, le-ltb}
-use Rattle.property.proofs.Refusal.{taken_bounds}
 use Rattle.judged_rest.specs.declared.Reached.{Reached}
 use Rattle.judged_rest.specs.declared.Reason.{Reason}
 use Rattle.judged_rest.specs.Lent.{Lines, lent}
@@ -21,34 +20,34 @@ pub next-y-requires : goal.next-y-requires
 next-y-requires c = omega (arith, c.requires.2)
 
 pub returns-then-stamp-y : goal.returns-then-stamp-y
-returns-then-stamp-y c = 
+returns-then-stamp-y c =
     let run : Lines =
-        lent c.args.output.now c.args.action.now c.args.stamp.now in
+    lent c.args.output.now c.args.action.now c.args.stamp.now in
     no_output c.args.p run c.args.breaking c.args.from c.next-x.result c.next-y.result c.next-x.ensures.0 c.next-y.ensures.0 c.requires.2.sized.output_long
     (le-leb _ _ c.if-stamp-y.true)
 
 pub returns-then-stamp-x : goal.returns-then-stamp-x
-returns-then-stamp-x c = 
+returns-then-stamp-x c =
     let run : Lines =
-        lent c.args.output.now c.args.action.now c.args.stamp.now in
+    lent c.args.output.now c.args.action.now c.args.stamp.now in
     no_input c.args.p run c.args.breaking c.args.from c.next-x.result c.next-y.result c.next-x.ensures.0 c.next-y.ensures.0 c.requires.2.sized.output_long
     (lt-leb _ _ c.if-stamp-y.false) (le-leb _ _ c.if-stamp-x.true)
 
 pub returns-then-stamp-x-2 : goal.returns-then-stamp-x-2
-returns-then-stamp-x-2 c = 
+returns-then-stamp-x-2 c =
     let run : Lines =
-        lent c.args.output.now c.args.action.now c.args.stamp.now in
+    lent c.args.output.now c.args.action.now c.args.stamp.now in
     too_far c.args.p run c.args.breaking c.args.from c.next-x.result c.next-y.result c.next-x.ensures.0 c.next-y.ensures.0 c.requires.2.sized.output_long
     (lt-leb _ _ c.if-stamp-y.false) (lt-leb _ _ c.if-stamp-x.false) (lt-ltb _ _ c.if-stamp-x-2.true)
 
 pub returns-then-reaches : goal.returns-then-reaches
-returns-then-reaches c = 
+returns-then-reaches c =
     let run : Lines =
-        lent c.args.output.now c.args.action.now c.args.stamp.now in
+    lent c.args.output.now c.args.action.now c.args.stamp.now in
     let end_of : ℕ =
-        (judged c.args.p run (with_line c.args.p c.args.from true (get_or c.args.action.now c.next-y.result 0) c.next-y.result) (length c.args.stamp.now)).told.verdict in
+    (judged c.args.p run (with_line c.args.p c.args.from true (get_or c.args.action.now c.next-y.result 0) c.next-y.result) (length c.args.stamp.now)).told.verdict in
     let asked : c.reaches.result ≡ reaches c.args.breaking end_of =
-        c.reaches.ensures
+    c.reaches.ensures
     ∙ ap (λ (r : Reason). reaches c.args.breaking r.verdict)
     (c.judge-end.ensures ∙ ap (λ (f : Reached). (judged c.args.p run f (length c.args.stamp.now)).told) c.with_line-then.ensures.0) in
     reached c.args.p run c.args.breaking c.args.from c.next-x.result c.next-y.result c.next-x.ensures.0 c.next-y.ensures.0 c.requires.2.sized.output_long
@@ -56,13 +55,13 @@ returns-then-reaches c =
     (sym asked ∙ c.if-reaches.true)
 
 pub returns : goal.returns
-returns c = 
+returns c =
     let run : Lines =
-        lent c.args.output.now c.args.action.now c.args.stamp.now in
+    lent c.args.output.now c.args.action.now c.args.stamp.now in
     let end_of : ℕ =
-        (judged c.args.p run (with_line c.args.p c.args.from true (get_or c.args.action.now c.next-y.result 0) c.next-y.result) (length c.args.stamp.now)).told.verdict in
+    (judged c.args.p run (with_line c.args.p c.args.from true (get_or c.args.action.now c.next-y.result 0) c.next-y.result) (length c.args.stamp.now)).told.verdict in
     let asked : c.reaches.result ≡ reaches c.args.breaking end_of =
-        c.reaches.ensures
+    c.reaches.ensures
     ∙ ap (λ (r : Reason). reaches c.args.breaking r.verdict)
     (c.judge-end.ensures ∙ ap (λ (f : Reached). (judged c.args.p run f (length c.args.stamp.now)).told) c.with_line-then.ensures.0) in
     not_reached c.args.p run c.args.breaking c.args.from c.next-x.result c.next-y.result c.next-x.ensures.0 c.next-y.ensures.0 c.requires.2.sized.output_long

@@ -1,5 +1,5 @@
 -- `name_list::any_outside` meets its contract. The loop's invariant: none of the bytes passed is outside.
-use Prim.Native.Nat.{ℕ, ◌-◌}
+use Prim.Native.Nat.{ℕ}
 use mathlib.Core.Path.{refl, sym, ◌∙◌, ap}
 use native.Mathlib.Numerals.{add-one}
 use borrow.Author.Rules.{rules}
@@ -12,11 +12,13 @@ pub loop-i-init : goal.loop-i-init
 loop-i-init c = (search rules, refl)
 
 pub returns-then-outside : goal.returns-then-outside
-returns-then-outside c =     let l = c.loop-i in
+returns-then-outside c =
+    let l = c.loop-i in
     or_here _ (sym c.outside.ensures ∙ c.if-outside.true) ∙ sym (outside_step _ l.i c.loop-i-test.true) ∙ l.invariant.1
 
 pub loop-i-preserved : goal.loop-i-preserved
-loop-i-preserved c =     let l = c.loop-i in (
+loop-i-preserved c =
+    let l = c.loop-i in (
       search rules,
       ap (λ (n : ℕ). any_outside (drop n c.args.name.now)) (add-one l.i)
           ∙ or-next (sym c.outside.ensures ∙ c.if-outside.false) refl

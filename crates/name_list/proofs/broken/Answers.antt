@@ -1,5 +1,5 @@
 -- `name_list::broken` meets its contract. The loop's invariant: what is left decides, and there are no more entries in it than it has bytes.
-use Prim.Native.Nat.{ℕ, suc, ◌+◌, ◌-◌}
+use Prim.Native.Nat.{ℕ, suc, ◌+◌}
 use mathlib.Core.Path.{◌≡◌, refl, sym, ◌∙◌, ap, ap₂}
 use native.Mathlib.Omega.{arith}
 use lib.ListN.{length, drop, get_or, length-drop}
@@ -18,45 +18,45 @@ loop-i-init c = (omega arith, (length c.args.list.now, omega arith, refl))
 
 pub returns-then-entry_broken : goal.returns-then-entry_broken
 unfolding list_broken
-returns-then-entry_broken c = 
+returns-then-entry_broken c =
     let L : List ℕ =
-        c.args.list.now in
+    c.args.list.now in
     let checked : c.entry_broken.result ≡ entry_broken c.loop-i.least (drop c.loop-i.i L) =
-        c.entry_broken.ensures ∙ ap (entry_broken c.loop-i.least) (part-all L c.loop-i.i) in
+    c.entry_broken.ensures ∙ ap (entry_broken c.loop-i.least) (part-all L c.loop-i.i) in
     let l = c.loop-i in
     or-next (le-ltb 8192 (length L) c.if-list-gt-MOST_BYTES.false)
     (broken_here l.invariant.1.0 l.least (drop l.i L) (some_left L l.i c.loop-i-test.true) (sym checked ∙ c.if-entry_broken.true) ∙ l.invariant.1.2)
 
 pub bounds-list-i-in-loop-i : goal.bounds-list-i-in-loop-i
-bounds-list-i-in-loop-i c = 
+bounds-list-i-in-loop-i c =
     let L : List ℕ =
-        c.args.list.now in
+    c.args.list.now in
     let checked : c.entry_broken.result ≡ entry_broken c.loop-i.least (drop c.loop-i.i L) =
-        c.entry_broken.ensures ∙ ap (entry_broken c.loop-i.least) (part-all L c.loop-i.i) in
+    c.entry_broken.ensures ∙ ap (entry_broken c.loop-i.least) (part-all L c.loop-i.i) in
     let on : (let l = c.loop-i in On L l.i c.loop-i-test.true l.invariant.1.0 l.least) =
-        let l = c.loop-i in
+    let l = c.loop-i in
     broken_on L l.i c.loop-i-test.true l.invariant.1.0 l.least l.invariant.1.1 (sym checked ∙ c.if-entry_broken.false) in
     omega (arith, on.fits)
 
 pub loop-i-smaller : goal.loop-i-smaller
-loop-i-smaller c = 
+loop-i-smaller c =
     let L : List ℕ =
-        c.args.list.now in
+    c.args.list.now in
     let checked : c.entry_broken.result ≡ entry_broken c.loop-i.least (drop c.loop-i.i L) =
-        c.entry_broken.ensures ∙ ap (entry_broken c.loop-i.least) (part-all L c.loop-i.i) in
+    c.entry_broken.ensures ∙ ap (entry_broken c.loop-i.least) (part-all L c.loop-i.i) in
     let on : (let l = c.loop-i in On L l.i c.loop-i-test.true l.invariant.1.0 l.least) =
-        let l = c.loop-i in
+    let l = c.loop-i in
     broken_on L l.i c.loop-i-test.true l.invariant.1.0 l.least l.invariant.1.1 (sym checked ∙ c.if-entry_broken.false) in
     omega (arith, on.fits, c.wide.ensures.0)
 
 pub loop-i-preserved : goal.loop-i-preserved
-loop-i-preserved c = 
+loop-i-preserved c =
     let L : List ℕ =
-        c.args.list.now in
+    c.args.list.now in
     let checked : c.entry_broken.result ≡ entry_broken c.loop-i.least (drop c.loop-i.i L) =
-        c.entry_broken.ensures ∙ ap (entry_broken c.loop-i.least) (part-all L c.loop-i.i) in
+    c.entry_broken.ensures ∙ ap (entry_broken c.loop-i.least) (part-all L c.loop-i.i) in
     let on : (let l = c.loop-i in On L l.i c.loop-i-test.true l.invariant.1.0 l.least) =
-        let l = c.loop-i in
+    let l = c.loop-i in
     broken_on L l.i c.loop-i-test.true l.invariant.1.0 l.least l.invariant.1.1 (sym checked ∙ c.if-entry_broken.false) in
     let o = on in
     let list = L in
@@ -73,7 +73,8 @@ loop-i-preserved c =
 
 pub returns : goal.returns
 unfolding list_broken
-returns c =     let l = c.loop-i in
+returns c =
+    let l = c.loop-i in
     let list = c.args.list.now in
     or-next (le-ltb 8192 (length list) c.if-list-gt-MOST_BYTES.false)
     (sym (broken-end l.invariant.1.0 l.least (drop l.i list) (omega (arith, length-drop l.i list, c.loop-i-test.false))) ∙ l.invariant.1.2)

@@ -16,104 +16,104 @@ unfolding entry_broken
 returns-then-cut_short c = or_here _ (sym c.cut_short.ensures ∙ c.if-cut_short.true)
 
 pub bounds-s-0 : goal.bounds-s-0
-bounds-s-0 c = 
+bounds-s-0 c =
     let whole : ltb (length c.args.s.now) (entry_size c.args.s.now) ≡ false =
-        sym c.cut_short.ensures ∙ c.if-cut_short.false in
+    sym c.cut_short.ensures ∙ c.if-cut_short.false in
     let S : List ℕ =
-        c.args.s.now in
+    c.args.s.now in
     let there : entry_size S ≤ length S =
-        ltb-false _ _ whole in
+    ltb-false _ _ whole in
     omega (arith, there)
 
 pub returns-then-zero_bit_set : goal.returns-then-zero_bit_set
 unfolding entry_broken
-returns-then-zero_bit_set c = 
+returns-then-zero_bit_set c =
     let whole : ltb (length c.args.s.now) (entry_size c.args.s.now) ≡ false =
-        sym c.cut_short.ensures ∙ c.if-cut_short.false in
+    sym c.cut_short.ensures ∙ c.if-cut_short.false in
     or-next whole (or_here _ (sym c.zero_bit_set.ensures ∙ c.if-zero_bit_set.true))
 
 pub bounds-s-0-2 : goal.bounds-s-0-2
-bounds-s-0-2 c = 
+bounds-s-0-2 c =
     let whole : ltb (length c.args.s.now) (entry_size c.args.s.now) ≡ false =
-        sym c.cut_short.ensures ∙ c.if-cut_short.false in
+    sym c.cut_short.ensures ∙ c.if-cut_short.false in
     let S : List ℕ =
-        c.args.s.now in
+    c.args.s.now in
     let there : entry_size S ≤ length S =
-        ltb-false _ _ whole in
+    ltb-false _ _ whole in
     omega (arith, there)
 
 pub returns-then-wide-least : goal.returns-then-wide-least
 unfolding entry_broken
-returns-then-wide-least c = 
+returns-then-wide-least c =
     let whole : ltb (length c.args.s.now) (entry_size c.args.s.now) ≡ false =
-        sym c.cut_short.ensures ∙ c.if-cut_short.false in
+    sym c.cut_short.ensures ∙ c.if-cut_short.false in
     let S : List ℕ =
-        c.args.s.now in
+    c.args.s.now in
     let least : ℕ =
-        c.args.least in
+    c.args.least in
     let bit : zero_bit_set (first S) ≡ false =
-        sym c.zero_bit_set.ensures ∙ c.if-zero_bit_set.false in
+    sym c.zero_bit_set.ensures ∙ c.if-zero_bit_set.false in
     or-next whole (or-next bit (or_here _ (lt-ltb (first S) least (omega (arith, c.if-wide-least.true, c.wide.ensures.0)))))
 
 pub bounds-s-1 : goal.bounds-s-1
-bounds-s-1 c = 
+bounds-s-1 c =
     let whole : ltb (length c.args.s.now) (entry_size c.args.s.now) ≡ false =
-        sym c.cut_short.ensures ∙ c.if-cut_short.false in
+    sym c.cut_short.ensures ∙ c.if-cut_short.false in
     let S : List ℕ =
-        c.args.s.now in
+    c.args.s.now in
     let there : entry_size S ≤ length S =
-        ltb-false _ _ whole in
+    ltb-false _ _ whole in
     omega (arith, there)
 
 pub returns-then-size_outside : goal.returns-then-size_outside
 unfolding entry_broken
-returns-then-size_outside c = 
+returns-then-size_outside c =
     let whole : ltb (length c.args.s.now) (entry_size c.args.s.now) ≡ false =
-        sym c.cut_short.ensures ∙ c.if-cut_short.false in
+    sym c.cut_short.ensures ∙ c.if-cut_short.false in
     let S : List ℕ =
-        c.args.s.now in
+    c.args.s.now in
     let least : ℕ =
-        c.args.least in
+    c.args.least in
     let bit : zero_bit_set (first S) ≡ false =
-        sym c.zero_bit_set.ensures ∙ c.if-zero_bit_set.false in
+    sym c.zero_bit_set.ensures ∙ c.if-zero_bit_set.false in
     let rises : ltb (first S) least ≡ false =
-        le-ltb (first S) least (omega (arith, c.if-wide-least.false, c.wide.ensures.0)) in
+    le-ltb (first S) least (omega (arith, c.if-wide-least.false, c.wide.ensures.0)) in
     or-next whole (or-next bit (or-next rises (or_here _ (sym c.size_outside.ensures ∙ c.if-size_outside.true))))
 
 pub bounds-s-1-2 : goal.bounds-s-1-2
-bounds-s-1-2 c = 
+bounds-s-1-2 c =
     let whole : ltb (length c.args.s.now) (entry_size c.args.s.now) ≡ false =
-        sym c.cut_short.ensures ∙ c.if-cut_short.false in
+    sym c.cut_short.ensures ∙ c.if-cut_short.false in
     let S : List ℕ =
-        c.args.s.now in
+    c.args.s.now in
     let there : entry_size S ≤ length S =
-        ltb-false _ _ whole in
+    ltb-false _ _ whole in
     omega (arith, there)
 
 pub slice_bounds-any_outside-end : goal.slice_bounds-any_outside-end
-slice_bounds-any_outside-end c = 
+slice_bounds-any_outside-end c =
     let whole : ltb (length c.args.s.now) (entry_size c.args.s.now) ≡ false =
-        sym c.cut_short.ensures ∙ c.if-cut_short.false in
+    sym c.cut_short.ensures ∙ c.if-cut_short.false in
     let S : List ℕ =
-        c.args.s.now in
+    c.args.s.now in
     let there : entry_size S ≤ length S =
-        ltb-false _ _ whole in
+    ltb-false _ _ whole in
     omega (arith, there, c.wide-2.ensures.0)
 
 pub returns : goal.returns
 unfolding entry_broken
-returns c = 
+returns c =
     let whole : ltb (length c.args.s.now) (entry_size c.args.s.now) ≡ false =
-        sym c.cut_short.ensures ∙ c.if-cut_short.false in
+    sym c.cut_short.ensures ∙ c.if-cut_short.false in
     let S : List ℕ =
-        c.args.s.now in
+    c.args.s.now in
     let least : ℕ =
-        c.args.least in
+    c.args.least in
     let bit : zero_bit_set (first S) ≡ false =
-        sym c.zero_bit_set.ensures ∙ c.if-zero_bit_set.false in
+    sym c.zero_bit_set.ensures ∙ c.if-zero_bit_set.false in
     let rises : ltb (first S) least ≡ false =
-        le-ltb (first S) least (omega (arith, c.if-wide-least.false, c.wide.ensures.0)) in
+    le-ltb (first S) least (omega (arith, c.if-wide-least.false, c.wide.ensures.0)) in
     let size : size_outside (name_size S) ≡ false =
-        sym c.size_outside.ensures ∙ c.if-size_outside.false in
+    sym c.size_outside.ensures ∙ c.if-size_outside.false in
     let long : 2 + c.wide-2.result - 2 ≡ name_size S = omega (arith, c.wide-2.ensures.0) in
     or-next whole (or-next bit (or-next rises (or-next size (c.any_outside.ensures ∙ ap (λ (n : ℕ). any_outside (take n (drop 2 S))) long))))

@@ -15,25 +15,25 @@ pub returns-then-list-size : goal.returns-then-list-size
 returns-then-list-size c = short_list _ _ _ c.if-head-lt2.false (omega (arith, c.size.ensures.0, c.if-list-size.true))
 
 pub returns-then-of_release : goal.returns-then-of_release
-returns-then-of_release c = 
+returns-then-of_release c =
     let long-head : 2 ≤ length c.args.head.now =
-        c.if-head-lt2.false in
+    c.if-head-lt2.false in
     let whole : list_size c.args.head.now ≤ length c.args.list.now =
-        omega (arith, c.size.ensures.0, c.if-list-size.false) in
+    omega (arith, c.size.ensures.0, c.if-list-size.false) in
     broken_release _ _ _ c.if-of_release.true long-head whole (sym c.broken.ensures ∙ c.if-broken.true)
 
 pub returns-then-broken : goal.returns-then-broken
-returns-then-broken c = 
+returns-then-broken c =
     let long-head : 2 ≤ length c.args.head.now =
-        c.if-head-lt2.false in
+    c.if-head-lt2.false in
     let whole : list_size c.args.head.now ≤ length c.args.list.now =
-        omega (arith, c.size.ensures.0, c.if-list-size.false) in
+    omega (arith, c.size.ensures.0, c.if-list-size.false) in
     broken_site _ _ _ c.if-of_release.false long-head whole (sym c.broken.ensures ∙ c.if-broken.true)
 
 pub returns : goal.returns
-returns c = 
+returns c =
     let long-head : 2 ≤ length c.args.head.now =
-        c.if-head-lt2.false in
+    c.if-head-lt2.false in
     let whole : list_size c.args.head.now ≤ length c.args.list.now =
-        omega (arith, c.size.ensures.0, c.if-list-size.false) in
+    omega (arith, c.size.ensures.0, c.if-list-size.false) in
     judged _ _ _ long-head whole false (sym c.broken.ensures ∙ c.if-broken.false)

@@ -13,51 +13,51 @@ pub loop-i-init : goal.loop-i-init
 loop-i-init c = (omega arith, left-all _ _ c.requires)
 
 pub overflow_add-start : goal.overflow_add-start
-overflow_add-start c = 
+overflow_add-start c =
     let L : List ℕ =
-        c.args.list.now in
+    c.args.list.now in
     let wanted : ℕ =
-        c.args.first in
+    c.args.first in
     let at : ℕ =
-        c.loop-i.i in
+    c.loop-i.i in
     let inside : at + 2 + get_or L (at + 1) 0 ≤ length L =
-        left-fits L wanted at c.loop-i.invariant.1 c.loop-i-test.true in
+    left-fits L wanted at c.loop-i.invariant.1 c.loop-i-test.true in
     let short : length L ≤ 8192 =
-        good_long L c.requires in
+    good_long L c.requires in
     record { fits = omega (arith, inside, short) }
 
 pub bounds-list-i : goal.bounds-list-i
-bounds-list-i c = 
+bounds-list-i c =
     let L : List ℕ =
-        c.args.list.now in
+    c.args.list.now in
     let wanted : ℕ =
-        c.args.first in
+    c.args.first in
     let at : ℕ =
-        c.loop-i.i in
+    c.loop-i.i in
     let inside : at + 2 + get_or L (at + 1) 0 ≤ length L =
-        left-fits L wanted at c.loop-i.invariant.1 c.loop-i-test.true in
+    left-fits L wanted at c.loop-i.invariant.1 c.loop-i-test.true in
     omega (arith, inside)
 
 pub slice_bounds-result-end : goal.slice_bounds-result-end
-slice_bounds-result-end c = 
+slice_bounds-result-end c =
     let L : List ℕ =
-        c.args.list.now in
+    c.args.list.now in
     let wanted : ℕ =
-        c.args.first in
+    c.args.first in
     let at : ℕ =
-        c.loop-i.i in
+    c.loop-i.i in
     let inside : at + 2 + get_or L (at + 1) 0 ≤ length L =
-        left-fits L wanted at c.loop-i.invariant.1 c.loop-i-test.true in
+    left-fits L wanted at c.loop-i.invariant.1 c.loop-i-test.true in
     omega (arith, inside, c.wide.ensures.0)
 
 pub returns-then-wide : goal.returns-then-wide
-returns-then-wide c = 
+returns-then-wide c =
     let L : List ℕ =
-        c.args.list.now in
+    c.args.list.now in
     let wanted : ℕ =
-        c.args.first in
+    c.args.first in
     let at : ℕ =
-        c.loop-i.i in
+    c.loop-i.i in
     let n = c.wide in
     let b = c.wide-in-loop-i.ensures in
     let size : at + 2 + n.result - (at + 2) ≡ get_or L (at + 1) 0 = omega (arith, n.ensures.0) in
@@ -67,27 +67,27 @@ returns-then-wide c =
     refl (omega arith) refl
 
 pub loop-i-smaller : goal.loop-i-smaller
-loop-i-smaller c = 
+loop-i-smaller c =
     let L : List ℕ =
-        c.args.list.now in
+    c.args.list.now in
     let wanted : ℕ =
-        c.args.first in
+    c.args.first in
     let at : ℕ =
-        c.loop-i.i in
+    c.loop-i.i in
     let inside : at + 2 + get_or L (at + 1) 0 ≤ length L =
-        left-fits L wanted at c.loop-i.invariant.1 c.loop-i-test.true in
+    left-fits L wanted at c.loop-i.invariant.1 c.loop-i-test.true in
     omega (arith, inside, c.wide.ensures.0)
 
 pub loop-i-preserved : goal.loop-i-preserved
-loop-i-preserved c = 
+loop-i-preserved c =
     let L : List ℕ =
-        c.args.list.now in
+    c.args.list.now in
     let wanted : ℕ =
-        c.args.first in
+    c.args.first in
     let at : ℕ =
-        c.loop-i.i in
+    c.loop-i.i in
     let inside : at + 2 + get_or L (at + 1) 0 ≤ length L =
-        left-fits L wanted at c.loop-i.invariant.1 c.loop-i-test.true in
+    left-fits L wanted at c.loop-i.invariant.1 c.loop-i-test.true in
     let n = c.wide in
     let b = c.wide-in-loop-i.ensures in (
       omega (arith, inside, n.ensures.0),
@@ -96,7 +96,8 @@ loop-i-preserved c =
     )
 
 pub returns : goal.returns
-returns c =     let l = c.loop-i in
+returns c =
+    let l = c.loop-i in
     let list = c.args.list.now in
     part_at _ _ _ l.i 0
     (left_end list c.args.first l.i l.invariant.1 c.loop-i-test.false)
