@@ -5,7 +5,6 @@ use mathlib.Core.Bool.{true}
 use native.Mathlib.Omega.{arith}
 use lib.ListN.{length, get_or}
 use borrow.Author.Tests.{le-leb, lt-leb, lt-ltb, le-ltb}
-use Rattle.property.proofs.Refusal.{taken_bounds}
 use Rattle.judged_rest.specs.declared.Reached.{Reached}
 use Rattle.judged_rest.specs.declared.Reason.{Reason}
 use Rattle.judged_rest.specs.Lent.{Lines, lent}
@@ -13,6 +12,19 @@ use Rattle.judged_rest.specs.Judged.{judged}
 use Rattle.first_order.specs.Search.{reaches, with_line}
 use Rattle.first_order.proofs.Choices.{no_output, no_input, too_far, reached, not_reached}
 use Rattle.first_order.proofs.choice.Goals as goal
+use Rattle.first_order.proofs.choice.Goals.{After-reaches}
+
+-- the question is asked of the run with the output behind what was placed
+asked : (c : After-reaches)
+    → (let run : Lines = lent c.args.output.now c.args.action.now c.args.stamp.now in
+    let y : ℕ = c.next-y.result in
+    let behind : Reached = with_line c.args.p c.args.from true (get_or c.args.action.now y 0) y in
+    c.reaches.result ≡ reaches c.args.breaking (judged c.args.p run behind (length c.args.stamp.now)).told.verdict)
+asked c =
+    let run : Lines = lent c.args.output.now c.args.action.now c.args.stamp.now in
+    c.reaches.ensures
+    ∙ ap (λ (r : Reason). reaches c.args.breaking r.verdict)
+    (c.judge-end.ensures ∙ ap (λ (f : Reached). (judged c.args.p run f (length c.args.stamp.now)).told) c.with_line-then.ensures.0)
 
 pub next-x-requires : goal.next-x-requires
 next-x-requires c = omega (arith, c.requires.2)
@@ -22,49 +34,32 @@ next-y-requires c = omega (arith, c.requires.2)
 
 pub returns-then-stamp-y : goal.returns-then-stamp-y
 returns-then-stamp-y c =
-    let run : Lines =
-    lent c.args.output.now c.args.action.now c.args.stamp.now in
-    no_output c.args.p run c.args.breaking c.args.from c.next-x.result c.next-y.result c.next-x.ensures.0 c.next-y.ensures.0 c.requires.2.sized.output_long
+    no_output c.args.p (lent c.args.output.now c.args.action.now c.args.stamp.now) c.args.breaking c.args.from c.next-x.result c.next-y.result
+    c.next-x.ensures.0 c.next-y.ensures.0 c.requires.2.sized.output_long
     (le-leb _ _ c.if-stamp-y.true)
 
 pub returns-then-stamp-x : goal.returns-then-stamp-x
 returns-then-stamp-x c =
-    let run : Lines =
-    lent c.args.output.now c.args.action.now c.args.stamp.now in
-    no_input c.args.p run c.args.breaking c.args.from c.next-x.result c.next-y.result c.next-x.ensures.0 c.next-y.ensures.0 c.requires.2.sized.output_long
+    no_input c.args.p (lent c.args.output.now c.args.action.now c.args.stamp.now) c.args.breaking c.args.from c.next-x.result c.next-y.result
+    c.next-x.ensures.0 c.next-y.ensures.0 c.requires.2.sized.output_long
     (lt-leb _ _ c.if-stamp-y.false) (le-leb _ _ c.if-stamp-x.true)
 
 pub returns-then-stamp-x-2 : goal.returns-then-stamp-x-2
 returns-then-stamp-x-2 c =
-    let run : Lines =
-    lent c.args.output.now c.args.action.now c.args.stamp.now in
-    too_far c.args.p run c.args.breaking c.args.from c.next-x.result c.next-y.result c.next-x.ensures.0 c.next-y.ensures.0 c.requires.2.sized.output_long
+    too_far c.args.p (lent c.args.output.now c.args.action.now c.args.stamp.now) c.args.breaking c.args.from c.next-x.result c.next-y.result
+    c.next-x.ensures.0 c.next-y.ensures.0 c.requires.2.sized.output_long
     (lt-leb _ _ c.if-stamp-y.false) (lt-leb _ _ c.if-stamp-x.false) (lt-ltb _ _ c.if-stamp-x-2.true)
 
 pub returns-then-reaches : goal.returns-then-reaches
 returns-then-reaches c =
-    let run : Lines =
-    lent c.args.output.now c.args.action.now c.args.stamp.now in
-    let end_of : ℕ =
-    (judged c.args.p run (with_line c.args.p c.args.from true (get_or c.args.action.now c.next-y.result 0) c.next-y.result) (length c.args.stamp.now)).told.verdict in
-    let asked : c.reaches.result ≡ reaches c.args.breaking end_of =
-    c.reaches.ensures
-    ∙ ap (λ (r : Reason). reaches c.args.breaking r.verdict)
-    (c.judge-end.ensures ∙ ap (λ (f : Reached). (judged c.args.p run f (length c.args.stamp.now)).told) c.with_line-then.ensures.0) in
-    reached c.args.p run c.args.breaking c.args.from c.next-x.result c.next-y.result c.next-x.ensures.0 c.next-y.ensures.0 c.requires.2.sized.output_long
+    reached c.args.p (lent c.args.output.now c.args.action.now c.args.stamp.now) c.args.breaking c.args.from c.next-x.result c.next-y.result
+    c.next-x.ensures.0 c.next-y.ensures.0 c.requires.2.sized.output_long
     (lt-leb _ _ c.if-stamp-y.false) (lt-leb _ _ c.if-stamp-x.false) (le-ltb _ _ c.if-stamp-x-2.false)
-    (sym asked ∙ c.if-reaches.true)
+    (sym (asked (goal.at.returns-then-reaches c).After-reaches) ∙ c.if-reaches.true)
 
 pub returns : goal.returns
 returns c =
-    let run : Lines =
-    lent c.args.output.now c.args.action.now c.args.stamp.now in
-    let end_of : ℕ =
-    (judged c.args.p run (with_line c.args.p c.args.from true (get_or c.args.action.now c.next-y.result 0) c.next-y.result) (length c.args.stamp.now)).told.verdict in
-    let asked : c.reaches.result ≡ reaches c.args.breaking end_of =
-    c.reaches.ensures
-    ∙ ap (λ (r : Reason). reaches c.args.breaking r.verdict)
-    (c.judge-end.ensures ∙ ap (λ (f : Reached). (judged c.args.p run f (length c.args.stamp.now)).told) c.with_line-then.ensures.0) in
-    not_reached c.args.p run c.args.breaking c.args.from c.next-x.result c.next-y.result c.next-x.ensures.0 c.next-y.ensures.0 c.requires.2.sized.output_long
+    not_reached c.args.p (lent c.args.output.now c.args.action.now c.args.stamp.now) c.args.breaking c.args.from c.next-x.result c.next-y.result
+    c.next-x.ensures.0 c.next-y.ensures.0 c.requires.2.sized.output_long
     (lt-leb _ _ c.if-stamp-y.false) (lt-leb _ _ c.if-stamp-x.false) (le-ltb _ _ c.if-stamp-x-2.false)
-    (sym asked ∙ c.if-reaches.false)
+    (sym (asked (goal.at.returns c).After-reaches) ∙ c.if-reaches.false)

@@ -1,5 +1,5 @@
 -- `first_order::order` meets its contract. The loop: what the first j lines of the order have reached, and their numbers.
-use Prim.Native.Nat.{ℕ, ◌-◌, ◌<◌}
+use Prim.Native.Nat.{ℕ, ◌<◌}
 use mathlib.Core.Path.{◌≡◌, subst}
 use native.Mathlib.Omega.{arith}
 use lib.ListN.{length}

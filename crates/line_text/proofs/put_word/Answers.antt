@@ -7,7 +7,8 @@ pub loop-i-init : goal.loop-i-init
 loop-i-init c = (search rules, nothing _)
 
 pub loop-i-preserved : goal.loop-i-preserved
-loop-i-preserved c = let l = c.loop-i in
+loop-i-preserved c =
+    let l = c.loop-i in
     (search rules, next _ l.i (search rules) l.invariant.1 c.put-r.ensures)
 
 pub returns : goal.returns

@@ -12,17 +12,19 @@ pub loop-i-init : goal.loop-i-init
 loop-i-init c = (search rules, refl)
 
 pub returns-then-outside : goal.returns-then-outside
-returns-then-outside c = let l = c.loop-i in
+returns-then-outside c =
+    let l = c.loop-i in
     or_here _ (sym c.outside.ensures ∙ c.if-outside.true) ∙ sym (outside_step _ l.i c.loop-i-test.true) ∙ l.invariant.1
 
 pub loop-i-preserved : goal.loop-i-preserved
-loop-i-preserved c = let l = c.loop-i in (
-  search rules,
-  ap (λ (n : ℕ). any_outside (drop n c.args.name.now)) (add-one l.i)
-      ∙ or-next (sym c.outside.ensures ∙ c.if-outside.false) refl
-      ∙ sym (outside_step _ l.i c.loop-i-test.true)
-      ∙ l.invariant.1,
-)
+loop-i-preserved c =
+    let l = c.loop-i in (
+      search rules,
+      ap (λ (n : ℕ). any_outside (drop n c.args.name.now)) (add-one l.i)
+          ∙ or-next (sym c.outside.ensures ∙ c.if-outside.false) refl
+          ∙ sym (outside_step _ l.i c.loop-i-test.true)
+          ∙ l.invariant.1,
+    )
 
 pub returns : goal.returns
 returns c = sym (outside-end _ c.loop-i.i c.loop-i-test.false) ∙ c.loop-i.invariant.1

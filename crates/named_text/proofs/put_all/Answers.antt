@@ -9,11 +9,13 @@ pub loop-i-init : goal.loop-i-init
 loop-i-init c = (search rules, none-behind _)
 
 pub put-r-requires : goal.put-r-requires
-put-r-requires c = let l = c.loop-i in
+put-r-requires c =
+    let l = c.loop-i in
     omega (arith, l.invariant.1.longer, length-take l.i c.args.bytes.now)
 
 pub loop-i-preserved : goal.loop-i-preserved
-loop-i-preserved c = let l = c.loop-i in
+loop-i-preserved c =
+    let l = c.loop-i in
     (search rules, next _ l.i (search rules) l.invariant.1 c.put-r.ensures)
 
 pub returns : goal.returns

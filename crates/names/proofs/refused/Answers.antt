@@ -12,11 +12,13 @@ pub returns-then-broken : goal.returns-then-broken
 returns-then-broken c = number_11 _ _ _ (le-ltb 63 _ c.if-action-gt-LAST_ACTION.false) (sym c.broken.ensures ∙ c.if-broken.true)
 
 pub returns-then-broken-2 : goal.returns-then-broken-2
-returns-then-broken-2 c = sym
+returns-then-broken-2 c =
+    sym
     (number_is _ _ _ false false true (le-ltb 63 _ c.if-action-gt-LAST_ACTION.false) (sym c.broken.ensures ∙ c.if-broken.false)
     (sym c.broken-2.ensures ∙ c.if-broken-2.true))
 
 pub returns : goal.returns
-returns c = sym
+returns c =
+    sym
     (number_is _ _ _ false false false (le-ltb 63 _ c.if-action-gt-LAST_ACTION.false) (sym c.broken.ensures ∙ c.if-broken.false)
     (sym c.broken-2.ensures ∙ c.if-broken-2.false))

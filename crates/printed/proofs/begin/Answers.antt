@@ -8,7 +8,8 @@ use Rattle.printed.proofs.begin.Goals as goal
 
 pub returns : goal.returns
 unfolding begun_of
-returns c = let e = c.read_property-read.ensures in
+returns c =
+    let e = c.read_property-read.ensures in
     let text = c.opening.ensures ∙ ap (λ (r : PropertyRead). text_of (opening_text r.refusal)) e in
     let fresh = c.fresh-fresh.ensures ∙ ap (λ (r : PropertyRead). fresh_of r.property) e in
     λ i. record { text = text i; session = (fresh i).session; count = 0; more = eqb (e i).refusal 0 }

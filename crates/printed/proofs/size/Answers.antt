@@ -23,8 +23,9 @@ pub overflow_add-result-2 : goal.overflow_add-result-2
 overflow_add-result-2 c = omega (arith, c.field_at-n.ensures, small c.args.first)
 
 pub returns : goal.returns
-returns c = let first = c.args.first in (
-  (λ rest. ap form_size (c.field_at-n.ensures ∙ in_first first rest)),
-  omega (arith, c.field_at-n.ensures, small first),
-  omega (arith, c.field_at-n.ensures, small first),
-)
+returns c =
+    let first = c.args.first in (
+      (λ rest. ap form_size (c.field_at-n.ensures ∙ in_first first rest)),
+      omega (arith, c.field_at-n.ensures, small first),
+      omega (arith, c.field_at-n.ensures, small first),
+    )

@@ -19,7 +19,8 @@ joined number kind action l a is-letter is_action =
     rw (is-letter, is_action) (regrouped (decimal number) (space ∷ []) (letter kind ∷ []) (decimal action))
 
 pub returns : goal.returns
-returns c = let to-kind = then (then c.put_field-counted.ensures c.put.ensures) c.put-of_kind.ensures in
+returns c =
+    let to-kind = then (then c.put_field-counted.ensures c.put.ensures) c.put-of_kind.ensures in
     whole c.empty.ensures.0
     (renamed (joined _ _ _ _ _ c.letter_of.ensures c.wide.ensures.0) (then to-kind c.put_number.ensures))
     (lit≤ tt)

@@ -34,20 +34,22 @@ joined number kind action stamp verdict open_count l a is-letter is_action =
     (decimal open_count) (newline ∷ []))
 
 pub put-requires-2 : goal.put-requires-2
-put-requires-2 c = omega (
-  arith,
-  c.empty.ensures.1,
-  c.put_field-front.ensures.longer,
-  c.put.ensures.longer,
-  c.put-of_kind.ensures.longer,
-  c.put_field-of_action.ensures.longer,
-  c.put_field-of_stamp.ensures.longer,
-  c.put_verdict.ensures.longer,
-  c.put-of_verdict.ensures.longer,
-)
+put-requires-2 c =
+    omega (
+      arith,
+      c.empty.ensures.1,
+      c.put_field-front.ensures.longer,
+      c.put.ensures.longer,
+      c.put-of_kind.ensures.longer,
+      c.put_field-of_action.ensures.longer,
+      c.put_field-of_stamp.ensures.longer,
+      c.put_verdict.ensures.longer,
+      c.put-of_verdict.ensures.longer,
+    )
 
 pub returns : goal.returns
-returns c = let to-kind = then (then c.put_field-front.ensures c.put.ensures) c.put-of_kind.ensures in
+returns c =
+    let to-kind = then (then c.put_field-front.ensures c.put.ensures) c.put-of_kind.ensures in
     let to-stamp = then (then to-kind c.put_field-of_action.ensures) c.put_field-of_stamp.ensures in
     let to-verdict = then (then to-stamp c.put_verdict.ensures) c.put-of_verdict.ensures in
     let all = then (then to-verdict c.put_number.ensures) c.put-2.ensures in

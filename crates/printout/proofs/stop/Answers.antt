@@ -7,7 +7,8 @@ use Rattle.printout.proofs.stop.Goals as goal
 
 pub returns : goal.returns
 unfolding stop_text
-returns c = whole c.empty.ensures.0
+returns c =
+    whole c.empty.ensures.0
     (renamed (simp append_assoc)
     (then (then (then c.put_word.ensures c.put_field-counted.ensures) c.put_number.ensures) c.put.ensures))
     (lit≤ tt)

@@ -10,7 +10,8 @@ use Rattle.reason_text.proofs.placed.Goals as goal
 
 pub returns : goal.returns
 unfolding placed_text
-returns c = let moment = renamed (ap signed (to_z-of_z w64 c.args.moment c.ranges.moment)) c.put_moment.ensures in
+returns c =
+    let moment = renamed (ap signed (to_z-of_z w64 c.args.moment c.ranges.moment)) c.put_moment.ensures in
     whole c.empty.ensures.0
     (renamed (simp append_assoc) (then (then c.put_field.ensures moment) c.put.ensures))
     (lit≤ tt)

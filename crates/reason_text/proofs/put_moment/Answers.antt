@@ -11,7 +11,8 @@ use Rattle.reason_text.proofs.Moments.{negative, not_negative, put_negative, put
 use Rattle.reason_text.proofs.put_moment.Goals as goal
 
 pub returns-then-moment-lt0 : goal.returns-then-moment-lt0
-returns-then-moment-lt0 c = put_negative c.args.moment (negative c.args.moment c.ranges.moment c.if-moment-lt0.true)
+returns-then-moment-lt0 c =
+    put_negative c.args.moment (negative c.args.moment c.ranges.moment c.if-moment-lt0.true)
     (c.below_zero.ensures ∙ ap nat_abs (to_z-of_z w64 c.args.moment c.ranges.moment))
     c.put.ensures
     c.put_number.ensures

@@ -7,7 +7,8 @@ use Rattle.reason_text.proofs.reached.Goals as goal
 
 pub returns : goal.returns
 unfolding reached_text
-returns c = whole c.empty.ensures.0
+returns c =
+    whole c.empty.ensures.0
     (renamed (simp append_assoc)
     (then (then (then c.put_verdict.ensures c.put-told.ensures) c.put_number.ensures) c.put.ensures))
     (lit≤ tt)

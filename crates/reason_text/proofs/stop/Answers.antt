@@ -7,6 +7,7 @@ use Rattle.reason_text.proofs.stop.Goals as goal
 
 pub returns : goal.returns
 unfolding stop_alone_text
-returns c = whole c.empty.ensures.0
+returns c =
+    whole c.empty.ensures.0
     (renamed (simp append_assoc) (then (then c.put_word.ensures c.put_number.ensures) c.put.ensures))
     (lit≤ tt)
