@@ -8,7 +8,6 @@ use lib.Dec.{eqb}
 use Rattle.laws.specs.Bits.{mask_to}
 use Rattle.laws.specs.Places.{first}
 use Rattle.laws.proofs.Places.{first-same}
-use Rattle.meaning.specs.Words.{Line}
 use Rattle.meaning.specs.Calls.{Call, mark_at}
 use Rattle.property.specs.Meant.{action_of, meant}
 use Rattle.property.specs.declared.Property.{Property}

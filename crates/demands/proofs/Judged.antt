@@ -9,10 +9,9 @@ use lib.ListN.{length, drop, length-drop}
 use lib.Dec.{ltb}
 use borrow.Author.Tests.{ltb-false, lt-ltb, le-ltb, ltb-true}
 use Rattle.meaning.specs.Numbers.{given, first_of, property_refusal}
-use Rattle.meaning.specs.Calls.{Call, Watch, refusal, taken}
+use Rattle.meaning.specs.Calls.{Call, Watch, taken}
 use Rattle.property.specs.Meant.{meant}
 use Rattle.property.specs.declared.Property.{Property}
-use Rattle.property_form.specs.Read.{read}
 use Rattle.record_form.specs.Record.{record_size, record_answer}
 use Rattle.record_form.specs.Record
 use Rattle.trace_form.specs.ReadAs.{ReadAs, read_as}

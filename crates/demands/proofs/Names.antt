@@ -1,5 +1,5 @@
 -- Document 02, CR 2, as theorems: `names::refused` and `names::name`, and the listing with names. The lists are in `Lists`.
-use Prim.Native.Nat.{ℕ, zero, suc, ◌+◌, ◌-◌, ◌≤◌}
+use Prim.Native.Nat.{ℕ, zero, suc, ◌+◌, ◌≤◌}
 use mathlib.Core.Path.{◌≡◌, refl, ◌∙◌, ap}
 use mathlib.Core.Bool.{Bool, true, false, cond}
 use mathlib.Core.List.{List, [], ◌∷◌, ◌++◌, append-nil}
@@ -32,7 +32,7 @@ use Rattle.named.specs.Named.{names_of}
 use Rattle.name_list.specs.Read.{list_refusal}
 use Rattle.named.specs.Listing.{list_at, behind_list, property_at, behind_property, unless_bad, named_lines_of, named_log, named_listing_of}
 use Rattle.demands.specs.Refuses.{Refuses}
-use Rattle.demands.specs.Texts.{bytes, header, named_header, named_row_text, all_rows, stop_line}
+use Rattle.demands.specs.Texts.{header, named_header, named_row_text, all_rows, stop_line}
 use Rattle.demands.specs.Names.{list_front, list_behind, list_number, property_front, property_behind}
 use Rattle.demands.proofs.Texts.{demand_header, demand_last}
 use Rattle.demands.proofs.Lists.{size-read, demand_1_lists, good}

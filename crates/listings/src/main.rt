@@ -3,10 +3,11 @@
 #![tactic(auto)]
 
 use listing_shell::Form;
+use std::env::{Env, FillError};
 use std::fs::File;
-use std::{env, io};
+use std::str;
 
-fn list_file(rt: &HostRuntime, path: &str) {
+fn list_path(rt: &HostRuntime, path: &str) {
     match File::open(rt, path) {
         Ok(mut file) => {
             let mut out = rt.stdout();
@@ -21,9 +22,27 @@ fn list_file(rt: &HostRuntime, path: &str) {
     }
 }
 
-fn main(rt: HostRuntime) -> io::Result<()> {
-    for path in env::args(&rt)?.skip(1) {
-        list_file(&rt, path.as_str());
+// Lists the file that argument i names, and answers whether there is one. A name that is longer than any path is read as none.
+fn list_file(rt: &HostRuntime, i: usize) -> bool {
+    let mut name = [0u8; 4096];
+    let n = match rt.arg(i, &mut name) {
+        Ok(n) => n,
+        Err(FillError::TooLong) => 0,
+        Err(FillError::NotPresent) => return false,
+    };
+    match str::from_utf8(&name[..n]) {
+        Ok(path) => list_path(rt, path),
+        Err(_) => {
+            let _ = eprintln!(rt; "argument {i}: its name is no text");
+        }
     }
-    Ok(())
+    true
+}
+
+fn main(rt: HostRuntime) {
+    for i in 1..usize::MAX {
+        if !list_file(&rt, i) {
+            return;
+        }
+    }
 }
