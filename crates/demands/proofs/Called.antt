@@ -45,7 +45,7 @@ line_called k t = (refl, refl)
 pub mark_called : (lost t : ℕ) → entry_of (mark_at lost t) ≡ Entry.gap lost t
 mark_called lost t = refl
 
--- `kept::step`, whose promise is `stepped-of .. (call-of event)`, is the step by value on the session lent;
+-- `kept::step`, whose promise is `stepped_of .. (call_of event)`, is the step by value on the session lent;
 pub event_called : (output : Bool) (k t : ℕ)
     → (call_of (Kept.Line output k t) ≡ Call.line (line_of output k t)) × (call_of (Kept.Mark k t) ≡ mark_at k t)
 event_called output k t = (refl, refl)

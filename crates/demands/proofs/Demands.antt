@@ -89,7 +89,7 @@ pub use Rattle.demands.proofs.Called.{kinds, own_call, line_called, mark_called,
 pub use Rattle.demands.proofs.Held.{running_holds, demand_10}
 -- A record may start at any place of its ring (document 02, CR 9): two that say the same have the same answers, to calls and to walks.
 pub use Rattle.demands.proofs.Ring.{demand_ring, ring_walk}
--- A verdict once told stays told (document 02, CR 3): of the calls that run (`Told`), behind `running-3`.
+-- A verdict once told stays told (document 02, CR 3): of the calls that run (`Told`), behind `running_3`.
 pub use Rattle.demands.proofs.Told.{told_stays, closed_stays, closed_history, line-stands, session_stays, walk_stays, listing_stays, refused_stays}
 -- Lost lines that demand 3's premises cover: behind their mark, and before the second of two marks.
 pub use Rattle.meaning.proofs.Lost.{mark-before-lost, second_mark_behind_lost}
@@ -151,7 +151,7 @@ module _ (p : PropertyMeant) (good : property_refusal p ≡ 0) where
         exact-kept p good calls earlier g between quiet first later e premises far no_mark (cuts_verdict p (lengths p) (grown p calls)) (demand_2 calls).exact
 
   -- ==== Behind demand 3 (document 02, CR 3): "A verdict once told stays told." A lower bound of at least 1 is needed for it (`stays_told`,
-  -- `lower-bound-needed`). Every run has a verdict, and one only (`verdict-unique`);
+  -- `lower_bound_needed`). Every run has a verdict, and one only (`verdict_unique`);
   pub stays_told : ((run : Run) → StampsFrom 0 run → (v : Verdict) × IsVerdict p run v)
       -- its number on a longer run, or history, is not below the one on the shorter;
       × NeverFalls p × NeverFallsAfter p
@@ -166,7 +166,7 @@ module _ (p : PropertyMeant) (good : property_refusal p ≡ 0) where
 -- That each call ends is proved of every function. `Refuses number order Alone`: the number is the first of the table's order that
 -- holds, and where it is not 0 the whole answer, and all that was lent, is as `Alone` says.
 
--- `line` and `mark`, on any record, also one that no calls made: 10 (`demand-10`), then those of the step; zeros, and the session as it was.
+-- `line` and `mark`, on any record, also one that no calls made: 10 (`demand_10`), then those of the step; zeros, and the session as it was.
 pub demand_1 : (s : Session) (c : Call)
     → Refuses (stepped_of s c).answer.refusal (first_of (given 10 (out_of_range s)) (refusal_by s.property (cuts_of s) c))
     (λ n. stepped_of s c ≡ record { answer = record { refusal = n; verdict = 0; open_count = 0 }; session = s })
@@ -227,9 +227,9 @@ module _ (p : Data.Property) (good : property_refusal (meant p) ≡ 0) where
         let t = line-told p good calls l taken in
         (t.0, exact-kept (meant p) good (calls ++ Call.line l ∷ []) earlier g between quiet first later e premises far no_mark t.0 t.1, t.2)
 
-  -- Told verdicts stay told (`Told`): within a run no answer is below an earlier one (`told-stays`), a gap mark's is not above the run's
-  -- with the lost lines (`closed-stays`) or the full history's (`closed-history`), and the verdict standing on the session, which a line
-  -- answers (`line-stands`), does not fall with more calls (`session-stays`, `refused-stays`), a walk or a listing (`walk-stays`, `listing-stays`).
+  -- Told verdicts stay told (`Told`): within a run no answer is below an earlier one (`told_stays`), a gap mark's is not above the run's
+  -- with the lost lines (`closed_stays`) or the full history's (`closed_history`), and the verdict standing on the session, which a line
+  -- answers (`line-stands`), does not fall with more calls (`session_stays`, `refused_stays`), a walk or a listing (`walk_stays`, `listing_stays`).
 
   -- Lines, marks and walks in any mixture: the session is that of single calls in a row, so that all of this speaks of it,
   pub any_uses : (calls : List Call) (uses : List Use) → (more : List Call) × (session_through (running p good calls) uses ≡ running p good (calls ++ more))
@@ -314,6 +314,6 @@ pub demand_listing : (property records : List ℕ) → Demand-listing 6 record_a
 demand_listing = listing_listed record_reads
 
 -- The tap card's records behind the property (document 02, CR 4): the same of what its reader reads. Of lines and marks that the card can
--- say, its records have the listing of document 01's (`demand-tap`, in `Same`).
+-- say, its records have the listing of document 01's (`demand_tap`, in `Same`).
 pub demand_tap_listing : (property records : List ℕ) → Demand-listing 5 tap_answer property records
 demand_tap_listing = listing_listed tap_reads

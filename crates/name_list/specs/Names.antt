@@ -93,7 +93,7 @@ name_in (e ∷ rest) a = cond (eqb (first_byte e.action) (first_byte a)) e.name 
 abbrev pub names_in : List ℕ → Action → List ℕ
 names_in list = name_in (entries list)
 
--- ---- The same rules of entries, with no bytes: what `list-broken` is proved to refuse, no more and no less
+-- ---- The same rules of entries, with no bytes: what `list_broken` is proved to refuse, no more and no less
 
 unfoldable pub AllInside : List ℕ → Type 0
 AllInside [] = Unit {0}

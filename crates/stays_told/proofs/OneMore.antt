@@ -74,7 +74,7 @@ module _ {p : Property} (b : Bounds p) (run : Run) (l : Line) (low : All (λ (z 
     pub explains : Explanation p (run ++ l ∷ []) longer
     pub same : With l shorter longer
 
-  -- an input comes last in every explanation, for which LB ≥ 1 is needed (`never-before`)
+  -- an input comes last in every explanation, for which LB ≥ 1 is needed (`never_before`)
   out-input : In l → {o : List Line} → Explanation p (run ++ l ∷ []) o → TakenOut o
   out-input i {o} e =
       let c : Pairs p o = explains_pairs p b e in
