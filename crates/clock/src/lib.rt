@@ -7,10 +7,12 @@ ghost use Rattle.meaning.specs.Words.{Line};
 ghost use Rattle.meaning.specs.Numbers.{property_refusal};
 ghost use Rattle.meaning.specs.Calls.{Mark, stamp_refusal};
 ghost use Rattle.meaning.specs.Calls;
+ghost use Rattle.outcomes.specs.Numbers.{refusal_in};
 ghost use Rattle.property.specs.Meant.{meant};
 ghost use Rattle.clock.specs.Time.{clock_of, stored_clock};
 
 use limits::LAST_STAMP;
+use outcomes::Refusal;
 use property::Property;
 
 #[derive(Clone, Copy)]
@@ -29,17 +31,17 @@ pub fn fresh() -> Clock
     }
 }
 
-// Refusal 4 or 5 of a stamp, the first that holds, else 0.
-pub fn refused(clock: Clock, stamp: u64) -> u64
-    ensures { result ≡ stamp_refusal (clock_of clock) stamp }
+// Refusal 4 or 5 of a stamp, the first that holds.
+pub fn refused(clock: Clock, stamp: u64) -> Result<(), Refusal>
+    ensures { refusal_in result ≡ stamp_refusal (clock_of clock) stamp }
 {
     if LAST_STAMP < stamp {
-        return 4;
+        return Err(Refusal::StampTooLate);
     }
     if stamp < clock.latest {
-        return 5;
+        return Err(Refusal::StampTooEarly);
     }
-    0
+    Ok(())
 }
 
 // "T exceeds the latest stamp by more than 2·UB"

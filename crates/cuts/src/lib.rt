@@ -4,12 +4,9 @@
 
 ghost use Rattle.std.specs.Prelude.{◌+◌, ◌-◌, ◌*◌, ◌≤◌, ◌<◌, ◌≡◌, false, length};
 ghost use Rattle.meaning.specs.Limits.{last_stamp};
-ghost use Rattle.meaning.specs.Node.{verdict_number};
 ghost use Rattle.meaning.specs.Matcher.{some_to};
-ghost use Rattle.meaning.specs.Numbers.{property_refusal};
-ghost use Rattle.property.specs.Meant.{meant};
+ghost use Rattle.outcomes.specs.Numbers.{verdict_meant};
 ghost use Rattle.property.specs.declared.Property.{Property};
-ghost use Rattle.table.specs.Table.{IsTable};
 ghost use Rattle.matcher.specs.Sets.{Fits};
 ghost use Rattle.matcher.specs.Sets;
 ghost use Rattle.rows.specs.Rows.{Room};
@@ -18,9 +15,9 @@ ghost use Rattle.cuts.specs.Steps.{line_of, front_after, front_says};
 ghost use Rattle.cuts.specs.Fronts.{cut_at, with_cut, front_of, Usable, Holds, Swept, SweptOne, Appended};
 
 use matcher::Cut;
-use property::Property;
+use outcomes::Verdict;
 use rows::{Span, Words};
-use table::Table;
+use table::Steps;
 
 // "there are never more than sixty-five cuts to hold": the matched lengths of each as a mask, and the armed ones beside it.
 #[derive(Clone, Copy)]
@@ -64,11 +61,11 @@ pub fn strays(rows: &[Words], span: Span, j: usize, n: usize) -> bool
     false
 }
 
-// The verdict's number, read off the last cut.
-pub fn verdict(rows: &[Words], span: Span, j: usize) -> u8
+// The verdict, read off the last cut.
+pub fn verdict(rows: &[Words], span: Span, j: usize) -> Verdict
     requires { Room rows.now span × (3 + 2 * j < length rows.now) }
     ensures { (p : Property) → Fits p (cut_at rows.now span j span.count)
-        → result ≡ verdict_number (front_says p (front_of rows.now span j)) }
+        → verdict_meant result ≡ front_says p (front_of rows.now span j) }
 {
     matcher::verdict(cut_at(rows, span, j, span.count))
 }
@@ -76,8 +73,7 @@ pub fn verdict(rows: &[Words], span: Span, j: usize) -> u8
 // The new set of the cut after an open input, when an output comes: the output directly behind that input, if the input
 // may stand before it, or at an earlier cut, with that input behind it.
 fn swept_cut(
-    p: Property,
-    table: &Table,
+    steps: &Steps,
     action: u64,
     stamp: u64,
     held: u64,
@@ -85,12 +81,12 @@ fn swept_cut(
     before: Cut,
     after: Cut,
 ) -> Cut
-    requires { (property_refusal (meant p) ≡ 0) × IsTable p table.now × (held ≤ last_stamp) × Fits p before × Fits p after }
-    ensures { SweptOne p action stamp held input before after result }
+    requires { (held ≤ last_stamp) × Fits steps.now.property before × Fits steps.now.property after }
+    ensures { SweptOne steps.now.property action stamp held input before after result }
 {
-    let behind = matcher::moved(p, table, before, false, input);
-    if held + 2 * p.lb <= stamp {
-        let direct = matcher::moved(p, table, after, true, action);
+    let behind = matcher::moved(steps, before, false, input);
+    if held + 2 * steps.property.lb <= stamp {
+        let direct = matcher::moved(steps, after, true, action);
         return matcher::joined(direct, behind);
     }
     behind
@@ -99,19 +95,18 @@ fn swept_cut(
 // An output goes through the cuts of property j. A turn reads and stores at one index alone, so that its place is found once: the open
 // input before the next cut is read a turn ahead.
 pub fn sweep(
-    p: Property,
-    table: &Table,
+    steps: &Steps,
     rows: &mut [Words],
     span: Span,
     j: usize,
     action: u64,
     stamp: u64,
 )
-    requires { Usable p rows.old span j × IsTable p table.now }
-    ensures { Swept p span j action stamp rows.old rows.new }
+    requires { Usable steps.now.property rows.old span j }
+    ensures { Swept steps.now.property span j action stamp rows.old rows.new }
 {
     let count = span.count;
-    let mut cut = matcher::moved(p, table, cut_at(rows, span, j, 0), true, action);
+    let mut cut = matcher::moved(steps, cut_at(rows, span, j, 0), true, action);
     put_cut(rows, span, j, 0, cut);
     let mut held = rows::word(rows, span, 0, 0);
     let mut input = rows::word(rows, span, 1, 0);
@@ -119,7 +114,7 @@ pub fn sweep(
     while i < count {
         let next = i + 1;
         let after = cut_at(rows, span, j, next);
-        cut = swept_cut(p, table, action, stamp, held, input, cut, after);
+        cut = swept_cut(steps, action, stamp, held, input, cut, after);
         put_cut(rows, span, j, next, cut);
         held = rows::word(rows, span, 0, next);
         input = rows::word(rows, span, 1, next);
@@ -128,21 +123,20 @@ pub fn sweep(
 }
 
 // A new input comes last: one more cut of property j behind it.
-pub fn append(p: Property, table: &Table, rows: &mut [Words], span: Span, j: usize, action: u64)
-    requires { Usable p rows.old span j × IsTable p table.now × (span.count < 64) }
-    ensures { Appended p span j action rows.old rows.new }
+pub fn append(steps: &Steps, rows: &mut [Words], span: Span, j: usize, action: u64)
+    requires { Usable steps.now.property rows.old span j × (span.count < 64) }
+    ensures { Appended steps.now.property span j action rows.old rows.new }
 {
     let count = span.count;
     let last = cut_at(rows, span, j, count);
-    let cut = matcher::moved(p, table, last, false, action);
+    let cut = matcher::moved(steps, last, false, action);
     put_cut(rows, span, j, count + 1, cut);
 }
 
 // One line of a run, taken: the first `closed` open inputs give their places up, then an output goes through the cuts, or an
 // input comes last.
 pub fn take_line(
-    p: Property,
-    table: &Table,
+    steps: &Steps,
     rows: &mut [Words],
     span: Span,
     closed: usize,
@@ -150,16 +144,16 @@ pub fn take_line(
     action: u64,
     stamp: u64,
 ) -> Span
-    requires usable { Usable p rows.old span 0 × IsTable p table.now }
-    requires closes { Closes p.ub rows.old span stamp closed × (stamp ≤ last_stamp) × (output ≡ false → span.count - closed < 64) }
-    ensures { Holds p (front_after p (front_of rows.old span 0) (line_of output action stamp)) rows.new result 0 }
+    requires usable { Usable steps.now.property rows.old span 0 }
+    requires closes { Closes steps.now.property.ub rows.old span stamp closed × (stamp ≤ last_stamp) × (output ≡ false → span.count - closed < 64) }
+    ensures { Holds steps.now.property (front_after steps.now.property (front_of rows.old span 0) (line_of output action stamp)) rows.new result 0 }
 {
     let left = rows::shorter(span, closed);
     if output {
-        sweep(p, table, rows, left, 0, action, stamp);
+        sweep(steps, rows, left, 0, action, stamp);
         return left;
     }
-    append(p, table, rows, left, 0, action);
+    append(steps, rows, left, 0, action);
     held::append(rows, left, action, stamp);
     rows::longer(left)
 }

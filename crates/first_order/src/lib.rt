@@ -3,17 +3,15 @@
 
 ghost use Rattle.std.specs.Prelude.{◌+◌, ◌-◌, ◌^◌, ◌≤◌, ◌<◌, ◌≡◌, cond, not, length};
 ghost use Rattle.laws.specs.Filled.{Filled};
-ghost use Rattle.meaning.specs.Numbers.{property_refusal};
-ghost use Rattle.property.specs.Meant.{meant};
-ghost use Rattle.table.specs.Table.{IsTable};
+ghost use Rattle.outcomes.specs.Numbers.{number_told};
 ghost use Rattle.matcher.specs.Sets.{Fits};
 ghost use Rattle.judged_rest.specs.Lent.{lent};
 ghost use Rattle.first_order.specs.Search.{pair, next_from, kind_in, Within, Found, number_at, Written};
 ghost use Rattle.first_order.specs.Search;
 
 use judged_rest::Reached;
-use property::Property;
-use table::Table;
+use outcomes::Verdict;
+use table::Steps;
 
 // An output, or an input.
 fn is_kind(output: bool, wanted: bool) -> bool
@@ -41,28 +39,27 @@ fn next(output: &[bool], wanted: bool, from: usize) -> usize
 }
 
 // By the verdict on what follows: some explanation breaks, or some does not.
-fn reaches(breaking: bool, verdict: u64) -> bool
-    ensures { result ≡ Search.reaches breaking verdict }
+fn reaches(breaking: bool, verdict: Verdict) -> bool
+    ensures { result ≡ Search.reaches breaking (number_told verdict) }
 {
     if breaking {
-        return 1 <= verdict;
+        return verdict != Verdict::Clear;
     }
-    verdict <= 1
+    verdict == Verdict::Clear || verdict == Verdict::Suspect
 }
 
 // The order with the line at place k behind it.
 fn with_line(
-    p: Property,
-    table: &Table,
+    steps: &Steps,
     from: Reached,
     output: bool,
     action: u8,
     k: usize,
 ) -> Reached
-    requires { (property_refusal (meant p) ≡ 0) × IsTable p table.now × Fits p from.cut × (k + 1 < 2 ^ 64) }
-    ensures { (result ≡ Search.with_line p from output action k) × Fits p result.cut }
+    requires { Fits steps.now.property from.cut × (k + 1 < 2 ^ 64) }
+    ensures { (result ≡ Search.with_line steps.now.property from output action k) × Fits steps.now.property result.cut }
 {
-    let cut = matcher::moved(p, table, from.cut, output, action as u64);
+    let cut = matcher::moved(steps, from.cut, output, action as u64);
     let behind = k + 1;
     if output {
         return Reached {
@@ -80,16 +77,15 @@ fn with_line(
 
 // The place of the next line of the order: the output, wherever the wanted end can still be reached behind it.
 fn choice(
-    p: Property,
-    table: &Table,
+    steps: &Steps,
     output: &[bool],
     action: &[u8],
     stamp: &[u64],
     breaking: bool,
     from: Reached,
 ) -> usize
-    requires { (property_refusal (meant p) ≡ 0) × IsTable p table.now × Within p (lent output.now action.now stamp.now) from }
-    ensures { result ≡ Search.choice p (lent output.now action.now stamp.now) breaking from }
+    requires { Within steps.now.property (lent output.now action.now stamp.now) from }
+    ensures { result ≡ Search.choice steps.now.property (lent output.now action.now stamp.now) breaking from }
 {
     let x = next(output, false, from.input);
     let y = next(output, true, from.output);
@@ -99,30 +95,29 @@ fn choice(
     if stamp.len() <= x {
         return y;
     }
-    if stamp[x] + 2 * p.ub < stamp[y] {
+    if stamp[x] + 2 * steps.property.ub < stamp[y] {
         return x;
     }
-    let then = with_line(p, table, from, true, action[y], y);
-    let end = judged_rest::judge(p, table, output, action, stamp, then);
-    if reaches(breaking, end.verdict) {
-        return y;
-    }
-    x
+    let then = with_line(steps, from, true, action[y], y);
+    let reached = match judged_rest::judge(steps, output, action, stamp, then) {
+        Ok(end) => reaches(breaking, end.verdict),
+        Err(_) => reaches(breaking, Verdict::Clear),
+    };
+    if reached { y } else { x }
 }
 
 // The numbers of the lines of the first order with the wanted end.
 fn order(
-    p: Property,
-    table: &Table,
+    steps: &Steps,
     output: &[bool],
     action: &[u8],
     stamp: &[u64],
     breaking: bool,
     numbers: &mut [u64],
 )
-    requires p_value { (property_refusal (meant p) ≡ 0) × IsTable p table.now × (length stamp.now ≤ length numbers.old) }
-    requires found { Found p (lent output.now action.now stamp.now) breaking }
-    ensures { Filled 0 0 (length stamp.now) (number_at p (lent output.now action.now stamp.now) breaking)
+    requires room { length stamp.now ≤ length numbers.old }
+    requires found { Found steps.now.property (lent output.now action.now stamp.now) breaking }
+    ensures { Filled 0 0 (length stamp.now) (number_at steps.now.property (lent output.now action.now stamp.now) breaking)
         numbers.old numbers.new }
 {
     let mut here = Reached {
@@ -132,8 +127,8 @@ fn order(
     };
     let mut j = 0;
     while j < stamp.len() {
-        let k = choice(p, table, output, action, stamp, breaking, here);
-        here = with_line(p, table, here, output[k], action[k], k);
+        let k = choice(steps, output, action, stamp, breaking, here);
+        here = with_line(steps, here, output[k], action[k], k);
         numbers[j] = k as u64 + 1;
         j += 1;
     }
@@ -141,8 +136,7 @@ fn order(
 
 // An order and its moments.
 pub fn write(
-    p: Property,
-    table: &Table,
+    steps: &Steps,
     output: &[bool],
     action: &[u8],
     stamp: &[u64],
@@ -150,11 +144,11 @@ pub fn write(
     numbers: &mut [u64],
     moments: &mut [i64],
 )
-    requires p_value { (property_refusal (meant p) ≡ 0) × IsTable p table.now × Found p (lent output.now action.now stamp.now) breaking }
+    requires found { Found steps.now.property (lent output.now action.now stamp.now) breaking }
     requires stamp_in_bounds { (length stamp.now ≤ length numbers.old) × (length stamp.now ≤ length moments.old) }
-    ensures { Written p (lent output.now action.now stamp.now) breaking
+    ensures { Written steps.now.property (lent output.now action.now stamp.now) breaking
         (pair numbers.old moments.old) (pair numbers.new moments.new) }
 {
-    order(p, table, output, action, stamp, breaking, numbers);
-    order_moments::earliest(p, output, stamp, numbers, moments);
+    order(steps, output, action, stamp, breaking, numbers);
+    order_moments::earliest(steps.property, output, stamp, numbers, moments);
 }

@@ -1,29 +1,26 @@
-// A gap mark on lent rows, in which it changes nothing: what they hold is not in use while blind.
+// A gap mark on lent rows, of which it changes none: what they hold is not in use while blind.
 #![tactic(auto)]
 
 ghost use Rattle.meaning.specs.Calls.{mark_at};
-ghost use Rattle.session_record.specs.Lent.{memory, Ready, Advanced};
+ghost use Rattle.session_record.specs.Lent.{Advanced};
+ghost use Rattle.session_record.specs.Step.{answer_in};
+ghost use Rattle.session_record.specs.Loan.{memory_in};
 
-use answers::{blinded, refused, unmoved};
-use held::Status;
-use property::Property;
-use rows::Words;
-use session_record::Reply;
+use outcomes::Verdict;
+use session_record::{Answer, Lent};
 
 // A gap mark, with the number of lost lines.
-pub fn mark(p: Property, rows: &[Words], status: Status, lost: u8, stamp: u64) -> Reply
-    requires { Ready (memory p rows.now status) }
-    ensures { Advanced (memory p rows.now status) (mark_at lost stamp) result.answer (memory p rows.now result.status) }
+pub fn mark(lent: &mut Lent<'_>, lost: u8, stamp: u64) -> Answer
+    ensures { Advanced (memory_in lent.old) (mark_at lost stamp) (answer_in result) (memory_in lent.new) }
 {
-    let clock = status.clock;
-    let number = refused(lost, clock, stamp);
-    if number != 0 {
-        return unmoved(number, status);
-    }
-    let after = clock::marked(clock, stamp);
-    if clock.blind {
-        return blinded(3, after);
-    }
-    let verdict = cuts::verdict(rows, status.span, 0);
-    blinded(verdict, after)
+    let clock = lent.status.clock;
+    answers::refused(lost, clock, stamp)?;
+    let closing = if clock.blind {
+        Verdict::Blind
+    } else {
+        cuts::verdict(lent.rows, lent.status.span, 0)
+    };
+    let reply = answers::blinded(closing, clock::marked(clock, stamp));
+    lent.status = reply.status;
+    Ok(reply.told)
 }

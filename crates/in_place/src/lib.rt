@@ -2,51 +2,39 @@
 #![tactic(auto)]
 
 ghost use Rattle.meaning.specs.Calls.{Call};
-ghost use Rattle.table.specs.Table.{IsTable};
 ghost use Rattle.cuts.specs.Steps.{line_of};
-ghost use Rattle.session_record.specs.Lent.{memory, Ready, Advanced};
+ghost use Rattle.session_record.specs.Lent.{Advanced};
+ghost use Rattle.session_record.specs.Step.{answer_in};
+ghost use Rattle.session_record.specs.Loan.{memory_in};
 
-use answers::{blinded, open_after, refused, unmoved};
+use answers::{blinded, open_after, refused};
 use clock::{beyond, ticked};
-use held::Status;
 use limits::MOST_OPEN;
-use property::Property;
-use rows::Words;
+use outcomes::{Refusal, Verdict};
+use property::Line;
 use run_line::{begin, run_on};
-use session_record::Reply;
-use table::Table;
+use session_record::{Answer, Lent};
 
 // A line.
-pub fn line(
-    p: Property,
-    table: &Table,
-    rows: &mut [Words],
-    status: Status,
-    output: bool,
-    action: u8,
-    stamp: u64,
-) -> Reply
-    requires { Ready (memory p rows.old status) × IsTable p table.now }
-    ensures { Advanced (memory p rows.old status) (Call.line (line_of output action stamp)) result.answer (memory p rows.new result.status) }
+pub fn line(lent: &mut Lent<'_>, line: Line) -> Answer
+    ensures { Advanced (memory_in lent.old) (Call.line (line_of line.output line.action line.stamp)) (answer_in result) (memory_in lent.new) }
 {
-    let clock = status.clock;
-    let number = refused(action, clock, stamp);
-    if number != 0 {
-        return unmoved(number, status);
-    }
-    if clock.blind {
-        if !beyond(p, clock, stamp) {
-            return blinded(3, ticked(clock, stamp, true));
+    let clock = lent.status.clock;
+    let stamp = line.stamp;
+    refused(line.action, clock, stamp)?;
+    let reply = if !clock.blind {
+        let span = lent.status.span;
+        let closed = held::closed_count(lent.steps.property.ub, lent.rows, span, stamp);
+        if MOST_OPEN < open_after(span.count, closed, line.output) {
+            return Err(Refusal::TooManyOpen);
         }
-        let after = ticked(clock, stamp, false);
-        let none = begin(rows);
-        return run_on(p, table, rows, none, after, 0, output, action, stamp);
-    }
-    let span = status.span;
-    let closed = held::closed_count(p.ub, rows, span, stamp);
-    if MOST_OPEN < open_after(span.count, closed, output) {
-        return unmoved(6, status);
-    }
-    let after = ticked(clock, stamp, false);
-    run_on(p, table, rows, span, after, closed, output, action, stamp)
+        run_on(lent.steps, lent.rows, span, ticked(clock, stamp, false), closed, line)
+    } else if beyond(lent.steps.property, clock, stamp) {
+        let none = begin(lent.rows);
+        run_on(lent.steps, lent.rows, none, ticked(clock, stamp, false), 0, line)
+    } else {
+        blinded(Verdict::Blind, ticked(clock, stamp, true))
+    };
+    lent.status = reply.status;
+    Ok(reply.told)
 }

@@ -2,36 +2,27 @@
 // line whether it is an output, its action's number, its stamp.
 #![tactic(auto)]
 
-ghost use Rattle.std.specs.Prelude.{◌+◌, ◌^◌, ◌<◌, ◌≡◌, cond, length, eqb};
-ghost use Rattle.meaning.specs.Numbers.{property_refusal};
-ghost use Rattle.property.specs.Meant.{meant};
-ghost use Rattle.table.specs.Table.{IsTable};
+ghost use Rattle.std.specs.Prelude.{◌+◌, ◌^◌, ◌<◌, ◌≡◌, cond, length, Ok};
+ghost use Rattle.outcomes.specs.Numbers.{number_told};
 ghost use Rattle.matcher.specs.Sets.{Fits};
 ghost use Rattle.cuts.specs.Steps.{line_of};
-ghost use Rattle.session_record.specs.Lent.{memory, Ready};
+ghost use Rattle.session_record.specs.Loan.{memory_in};
 ghost use Rattle.judged_rest.specs.Lent.{lent};
-ghost use Rattle.judged_rest.specs.Judged.{refused_by, told_then, Turned, judged};
+ghost use Rattle.judged_rest.specs.Judged.{reason_in, told_then, Turned, judged};
 ghost use Rattle.judged_rest.specs.Judged;
 
 use held::Status;
 use matcher::Cut;
-use property::Property;
-use rows::Words;
-use table::Table;
+use outcomes::{Refusal, Verdict};
+use property::Line;
+use session_record::Lent;
+use table::Steps;
 
-// Refusal number, verdict, and the line after which it was first told.
+// The verdict, and the line after which it was first told.
 #[derive(Clone, Copy)]
 pub struct Reason {
-    pub refusal: u64,
-    pub verdict: u64,
+    pub verdict: Verdict,
     pub line: u64,
-}
-
-// How far a judgement of the lines has come, beside the rows.
-#[derive(Clone, Copy)]
-pub struct Judging {
-    pub status: Status,
-    pub told: Reason,
 }
 
 // How far an order has come: every input before place `input` stands in it, and every output before place `output`. What the
@@ -53,115 +44,61 @@ fn waits(from: Reached, k: usize, output: bool) -> bool
     from.input <= k
 }
 
-// "A refusal carries 0 in all other numbers"
-pub fn refused(number: u64) -> Reason
-    ensures { result ≡ refused_by number }
-{
-    Reason {
-        refusal: number,
-        verdict: 0,
-        line: 0,
-    }
-}
-
-// The line after which this verdict was first told: the one at place k, where it is another than before.
-fn first_told(before: Reason, verdict: u64, k: usize) -> u64
+// The verdict after the line at place k: another than before was first told there.
+fn told(before: Reason, verdict: Verdict, k: usize) -> Reason
     requires { k + 1 < 2 ^ 64 }
-    ensures { result ≡ cond (eqb before.verdict verdict) before.line (k + 1) }
+    ensures { reason_in (Ok result) ≡ told_then (reason_in (Ok before)) (number_told verdict) k }
 {
     if before.verdict == verdict {
-        return before.line;
+        return before;
     }
-    k as u64 + 1
-}
-
-// The verdict after the line at place k.
-fn told(before: Reason, verdict: u64, k: usize) -> Reason
-    requires { (before.refusal ≡ 0) × (k + 1 < 2 ^ 64) }
-    ensures { result ≡ told_then before verdict k }
-{
     Reason {
-        refusal: 0,
-        verdict: verdict,
-        line: first_told(before, verdict, k),
+        verdict,
+        line: k as u64 + 1,
     }
 }
 
-// The line at place k on lent rows, if it waits. Behind a refusal nothing is judged.
-fn turn(
-    p: Property,
-    table: &Table,
-    rows: &mut [Words],
-    from: Reached,
-    here: Judging,
-    output: bool,
-    action: u8,
-    stamp: u64,
-    k: usize,
-) -> Judging
-    requires { Ready (memory p rows.old here.status) × IsTable p table.now × (k + 1 < 2 ^ 64) }
-    ensures { Turned from output (line_of output action stamp) k
-        (memory p rows.old here.status) here.told (memory p rows.new result.status) result.told }
+// The line at place k on lent rows, if it waits.
+fn turn(lent: &mut Lent<'_>, from: Reached, before: Reason, line: Line, k: usize) -> Result<Reason, Refusal>
+    requires { k + 1 < 2 ^ 64 }
+    ensures { Turned from line.output (line_of line.output line.action line.stamp) k
+        (memory_in lent.old) (reason_in (Ok before)) (memory_in lent.new) (reason_in result) }
 {
-    let before = here.told;
-    if before.refusal != 0 {
-        return here;
+    if !waits(from, k, line.output) {
+        return Ok(before);
     }
-    if !waits(from, k, output) {
-        return here;
-    }
-    let status = here.status;
-    let r = in_place::line(p, table, rows, status, output, action, stamp);
-    let answer = r.answer;
-    let next = r.status;
-    if answer.refusal != 0 {
-        return Judging {
-            status: next,
-            told: refused(answer.refusal),
-        };
-    }
-    Judging {
-        status: next,
-        told: told(before, answer.verdict, k),
-    }
+    let answer = in_place::line(lent, line)?;
+    Ok(told(before, answer.verdict, k))
 }
 
-// Judges the lines that are not yet in the order.
-pub fn judge(
-    p: Property,
-    table: &Table,
-    output: &[bool],
-    action: &[u8],
-    stamp: &[u64],
-    from: Reached,
-) -> Reason
-    requires p_value { (property_refusal (meant p) ≡ 0) × IsTable p table.now × Fits p from.cut }
+// Judges the lines that are not yet in the order. Behind a refusal nothing is judged.
+pub fn judge(steps: &Steps, output: &[bool], action: &[u8], stamp: &[u64], from: Reached) -> Result<Reason, Refusal>
+    requires fits { Fits steps.now.property from.cut }
     requires output_len { (length output.now ≡ length stamp.now) × (length action.now ≡ length stamp.now) }
-    ensures { result ≡ (judged p (lent output.now action.now stamp.now) from (length stamp.now)).told }
+    ensures { reason_in result ≡ (judged steps.now.property (lent output.now action.now stamp.now) from (length stamp.now)).told }
 {
-    let cut = from.cut;
     let mut rows = [[0u64; 65]; 4];
     let span = rows::spanning(0);
-    cuts::put_cut(&mut rows, span, 0, 0, cut);
-    let status = Status {
-        span: span,
-        clock: clock::fresh(),
+    cuts::put_cut(&mut rows, span, 0, 0, from.cut);
+    let mut lent = Lent {
+        steps,
+        rows: &mut rows,
+        status: Status {
+            span,
+            clock: clock::fresh(),
+        },
     };
-    let first = Reason {
-        refusal: 0,
-        verdict: matcher::verdict(cut) as u64,
+    let mut reason = Reason {
+        verdict: matcher::verdict(from.cut),
         line: 0,
     };
-    let mut here = Judging {
-        status: status,
-        told: first,
-    };
-    let mut k = 0;
-    while k < stamp.len() {
-        here = turn(
-            p, table, &mut rows, from, here, output[k], action[k], stamp[k], k,
-        );
-        k += 1;
+    for k in 0..stamp.len() {
+        let line = Line {
+            output: output[k],
+            action: action[k],
+            stamp: stamp[k],
+        };
+        reason = turn(&mut lent, from, reason, line, k)?;
     }
-    here.told
+    Ok(reason)
 }

@@ -2,7 +2,7 @@
 #![tactic(auto)]
 
 ghost use Rattle.std.specs.Prelude.{◌≡◌};
-ghost use Rattle.session_record.specs.Step.{stepped_of};
+ghost use Rattle.session_record.specs.Step.{answer_in, stepped_of, stepping_in};
 ghost use Rattle.kept.specs.Event.{call_of};
 
 use session_record::{Answer, Session, Stepped};
@@ -17,7 +17,7 @@ pub enum Event {
 
 // The proved step by value, of either kind: its one contract is all that `step` has to know.
 fn next(s: Session, event: Event) -> Stepped
-    ensures { result ≡ stepped_of s (call_of event) }
+    ensures { stepping_in result ≡ stepped_of s (call_of event) }
 {
     match event {
         Event::Line(output, action, stamp) => session::line(s, output, action, stamp),
@@ -28,7 +28,7 @@ fn next(s: Session, event: Event) -> Stepped
 // The step on a session that the caller keeps. It looks at nothing in the record: the step by value has given back the record as
 // it was where it refuses. What calls a step in Rattle calls `session` by value.
 pub fn step(s: &mut Session, event: Event) -> Answer
-    ensures { (result ≡ (stepped_of s.old (call_of event)).answer) × (s.new ≡ (stepped_of s.old (call_of event)).session) }
+    ensures { (answer_in result ≡ (stepped_of s.old (call_of event)).answer) × (s.new ≡ (stepped_of s.old (call_of event)).session) }
 {
     let stepped = next(*s, event);
     *s = stepped.session;

@@ -4,18 +4,16 @@
 ghost use Rattle.std.specs.Prelude.{ℕ, suc, ◌+◌, ◌^◌, ◌≤◌, ◌<◌, ◌≡◌, cond, get_or};
 ghost use Rattle.std.specs.Int.Bits.{bit_or};
 ghost use Rattle.meaning.specs.Matcher;
-ghost use Rattle.meaning.specs.Numbers.{property_refusal};
-ghost use Rattle.meaning.specs.Node.{verdict_number};
+ghost use Rattle.outcomes.specs.Numbers.{verdict_meant};
 ghost use Rattle.laws.specs.Bits.{bit};
 ghost use Rattle.property.specs.declared.Property.{Property};
 ghost use Rattle.property.specs.Meant.{action_of, meant};
-ghost use Rattle.table.specs.Table.{IsTable};
 ghost use Rattle.matcher.specs.Sets;
 ghost use Rattle.matcher.specs.Sets.{set_of, cut_of, Fits, set_verdict, stepped, Arranged, Moved, Joined};
 
 use limits::LAST_ACTION;
-use property::Property;
-use table::Table;
+use outcomes::Verdict;
+use table::{Steps, Table};
 
 // The matched lengths that are not armed as a mask, and the armed word beside it: bit k + 1 is length k, armed, and bit 0 is broken.
 #[derive(Clone, Copy)]
@@ -51,20 +49,17 @@ pub fn stray(n: usize, cut: Cut) -> bool
     0 < cut.armed >> (n + 2)
 }
 
-// The verdict's number, where the set is that of every explanation.
-pub fn verdict(cut: Cut) -> u8
-    ensures { (p : Property) → Fits p cut → result ≡ verdict_number (set_verdict p (set_of cut)) }
+// The verdict, where the set is that of every explanation.
+pub fn verdict(cut: Cut) -> Verdict
+    ensures { (p : Property) → Fits p cut → verdict_meant result ≡ set_verdict p (set_of cut) }
 {
     if cut.armed % 2 == 0 {
-        return 0;
+        return Verdict::Clear;
     }
-    if 0 < cut.mask {
-        return 1;
+    if 0 < cut.mask || 0 < cut.armed / 2 {
+        return Verdict::Suspect;
     }
-    if 0 < cut.armed / 2 {
-        return 1;
-    }
-    2
+    Verdict::Certain
 }
 
 // The set of lengths that a set goes to by a row of the table.
@@ -128,16 +123,17 @@ fn arranged(n: usize, free: u64, still: u64, broken: u64) -> Cut
 
 // The states that those of a cut move to at an action: an output outside the set breaks those that are armed, an allowed one
 // disarms them, an input keeps them armed.
-pub fn moved(p: Property, table: &Table, cut: Cut, output: bool, action: u64) -> Cut
-    requires { (property_refusal (meant p) ≡ 0) × IsTable p table.now × Fits p cut }
-    ensures { Moved p cut (action_of output action) result }
+pub fn moved(steps: &Steps, cut: Cut, output: bool, action: u64) -> Cut
+    requires { Fits steps.now.property cut }
+    ensures { Moved steps.now.property cut (action_of output action) result }
 {
-    let n = p.n;
+    let table = &steps.table;
+    let n = steps.property.n;
     let at = table::row(output, action);
     let armed_lengths = cut.armed / 2;
     let broken = cut.armed % 2;
     if output {
-        if outside(p.allowed, output, action) {
+        if outside(steps.property.allowed, output, action) {
             let free = step(table, at, n, cut.mask);
             return arranged(n, free, 0, with_broken(broken, 0 < armed_lengths));
         }

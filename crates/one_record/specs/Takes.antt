@@ -1,20 +1,11 @@
 -- A record on a session, by what it stands for.
 use Rattle.std.specs.Prelude.{◌≡◌}
-use Rattle.meaning.specs.Calls
 use Rattle.trace_form.specs.ReadAs.{ReadAs}
-use Rattle.session_record.specs.declared.Session.{Session}
-use Rattle.session_record.specs.declared.Answer.{Answer}
-use Rattle.session_record.specs.declared.Stepped.{Stepped}
-use Rattle.session_record.specs.Step.{answer_of, stepped_of}
 use Rattle.session_record.specs.Lent.{Memory, record_in, Ready}
+use Rattle.one_record.specs.Doing.{Doing, doing_of, session_after}
 
--- A call is a step. What is no call leaves the session as it was: a refusal answers its number, and an end 0 in all numbers.
-abbrev pub taken_of : Session → ReadAs → Stepped
-taken_of s (ReadAs.call c) = stepped_of s c
-taken_of s ReadAs.end = record { answer = answer_of (Calls.refused 0); session = s }
-taken_of s (ReadAs.refused n) = record { answer = answer_of (Calls.refused n); session = s }
-
--- A record leads from what the memory means to an answer and what it means then, and a next record can start from that.
-pub record Takes (m : Memory) (x : ReadAs) (a : Answer) (after : Memory) : Type 0 where
-  pub taken : taken_of (record_in m) x ≡ record { answer = a; session = record_in after }
+-- A record leads from what the memory means to what it did and what the memory means then, and a next record can start from that.
+pub record Takes (m : Memory) (x : ReadAs) (d : Doing) (after : Memory) : Type 0 where
+  pub did : d ≡ doing_of (record_in m) x
+  pub session : record_in after ≡ session_after (record_in m) x
   pub ready : Ready after

@@ -1,39 +1,49 @@
 // A record on lent rows: as it was read, on the session.
 #![tactic(auto)]
 
-ghost use Rattle.table.specs.Table.{IsTable};
+ghost use Rattle.record_form.specs.Record.{read_case};
 ghost use Rattle.trace_form.specs.ReadAs.{case_as};
-ghost use Rattle.session_record.specs.Lent.{memory, Ready};
+ghost use Rattle.session_record.specs.Loan.{memory_in};
 ghost use Rattle.one_record.specs.Takes.{Takes};
+ghost use Rattle.one_record.specs.Doing.{doing_in};
 
-use answers::unmoved;
-use held::Status;
-use property::Property;
-use record_form::RecordRead;
-use rows::Words;
-use session_record::Reply;
-use table::Table;
+use outcomes::Refusal;
+use property::Line;
+use record_form::Record;
+use session_record::{Lent, Told};
+
+// What a record did that was not refused.
+#[derive(Clone, Copy)]
+pub enum Did {
+    // It was taken, and this was told.
+    Took(Told),
+    // It is the end of the trace.
+    Ended,
+}
 
 // A line or a gap mark on the session. An end and a refusal leave it as it was.
-pub fn take(
-    p: Property,
-    table: &Table,
-    rows: &mut [Words],
-    status: Status,
-    read: RecordRead,
-) -> Reply
-    requires { Ready (memory p rows.old status) × IsTable p table.now }
-    ensures { Takes (memory p rows.old status) (case_as read) result.answer (memory p rows.new result.status) }
+pub fn take(lent: &mut Lent<'_>, read: Result<Record, Refusal>) -> Result<Did, Refusal>
+    ensures { Takes (memory_in lent.old) (case_as (read_case read)) (doing_in result) (memory_in lent.new) }
 {
-    match read {
-        RecordRead::Input(action, stamp) => {
-            in_place::line(p, table, rows, status, false, action, stamp)
-        }
-        RecordRead::Output(action, stamp) => {
-            in_place::line(p, table, rows, status, true, action, stamp)
-        }
-        RecordRead::Gap(lost, stamp) => gap_mark::mark(p, rows, status, lost, stamp),
-        RecordRead::End(_) => unmoved(0, status),
-        RecordRead::Refused(number) => unmoved(number, status),
-    }
+    let told = match read? {
+        Record::Input(action, stamp) => in_place::line(
+            lent,
+            Line {
+                output: false,
+                action,
+                stamp,
+            },
+        ),
+        Record::Output(action, stamp) => in_place::line(
+            lent,
+            Line {
+                output: true,
+                action,
+                stamp,
+            },
+        ),
+        Record::Gap(lost, stamp) => gap_mark::mark(lent, lost, stamp),
+        Record::End(_) => return Ok(Did::Ended),
+    };
+    Ok(Did::Took(told?))
 }

@@ -1,23 +1,21 @@
 // A record on lent rows: the printing program lends them from record to record.
 ghost use Rattle.std.specs.Prelude.{◌≡◌, false};
-ghost use Rattle.table.specs.Table.{IsTable};
+ghost use Rattle.record_form.specs.Record.{read_case};
 ghost use Rattle.trace_form.specs.ReadAs.{case_as};
-ghost use Rattle.session_record.specs.Lent.{memory, Ready};
+ghost use Rattle.session_record.specs.Loan.{memory_in};
+ghost use Rattle.one_record.specs.Doing.{doing_in};
 ghost use Rattle.printed.specs.Lent.{added_of, Adds};
 
-use held::Status;
 use line_text::Text;
-use property::Property;
-use record_form::RecordRead;
-use rows::Words;
-use session_record::Answer;
-use table::Table;
+use one_record::Did;
+use outcomes::{Refusal, Verdict};
+use record_form::Record;
+use session_record::{Lent, Told};
 
-// What a record adds to the listing, and what stands beside the rows after it.
+// What a record adds to the listing.
 #[derive(Clone, Copy)]
 pub struct Added {
     pub text: Text,
-    pub status: Status,
     // The number of records taken so far.
     pub count: u64,
     // The listing goes on: this was not its last line.
@@ -25,74 +23,52 @@ pub struct Added {
 }
 
 // The listing ends with this line.
-fn last(status: Status, count: u64, text: Text) -> Added
-    ensures { result ≡ record { text = text; status = status; count = count; more = false } }
+fn last(count: u64, text: Text) -> Added
+    ensures { result ≡ record { text = text; count = count; more = false } }
 {
     Added {
-        text: text,
-        status: status,
-        count: count,
+        text,
+        count,
         more: false,
     }
 }
 
-// What a record adds, as it was read, by the session's answer to it. The answer to a line has the verdict and the number open after it. A gap
-// shows its number of lost lines in place of an action; the answer to it has the verdict of the run that it closes, and what stands after it is
-// blind, with none open.
-fn adds(answer: Answer, status: Status, count: u64, read: RecordRead) -> Added
-    ensures { result ≡ added_of answer status count read }
+// The line of a record that was taken. A gap shows its number of lost lines in place of an action; the answer to it has the verdict of the
+// run that it closes, and what stands after it is blind, with none open.
+fn line(number: u64, told: Told, record: Record) -> Text
 {
-    if answer.refusal != 0 {
-        return last(status, count, printout::stop(count, answer.refusal));
+    let verdict = u64::from(told.verdict);
+    let open_count = told.open_count;
+    match record {
+        Record::Input(action, stamp) => printout::line(number, 0, action, stamp, verdict, open_count),
+        Record::Output(action, stamp) => printout::line(number, 1, action, stamp, verdict, open_count),
+        Record::Gap(lost, stamp) => printout::line(number, 2, lost, stamp, u64::from(Verdict::Blind), 0),
+        Record::End(_) => printout::end(number),
     }
-    let number = std::num::wrapping_add_u64(count, 1);
-    let text = match read {
-        RecordRead::Input(action, stamp) => printout::line(
-            number,
-            0,
-            action,
-            stamp,
-            answer.verdict,
-            answer.open_count,
-        ),
-        RecordRead::Output(action, stamp) => printout::line(
-            number,
-            1,
-            action,
-            stamp,
-            answer.verdict,
-            answer.open_count,
-        ),
-        RecordRead::Gap(lost, stamp) => printout::line(number, 2, lost, stamp, 3, 0),
-        RecordRead::End(_) => {
-            return last(status, count, printout::end(count));
+}
+
+// What a record adds, as it was read, by what it did.
+fn adds(did: Result<Did, Refusal>, count: u64, read: Result<Record, Refusal>) -> Added
+    ensures { result ≡ added_of (doing_in did) count (read_case read) }
+{
+    match (did, read) {
+        (Ok(Did::Took(told)), Ok(record)) => {
+            let number = count.wrapping_add(1);
+            Added {
+                text: line(number, told, record),
+                count: number,
+                more: true,
+            }
         }
-        RecordRead::Refused(refusal) => {
-            return last(status, count, printout::stop(count, refusal));
-        }
-    };
-    Added {
-        text: text,
-        status: status,
-        count: number,
-        more: true,
+        (Ok(_), _) => last(count, printout::end(count)),
+        (Err(refusal), _) => last(count, printout::stop(count, u64::from(refusal))),
     }
 }
 
 // A record as it was read, after `count` that were taken.
-pub fn record(
-    p: Property,
-    table: &Table,
-    rows: &mut [Words],
-    status: Status,
-    count: u64,
-    read: RecordRead,
-) -> Added
-    requires { Ready (memory p rows.old status) × IsTable p table.now }
-    ensures { Adds (memory p rows.old status) count (case_as read) result (memory p rows.new result.status) }
+pub fn record(lent: &mut Lent<'_>, count: u64, read: Result<Record, Refusal>) -> Added
+    ensures { Adds (memory_in lent.old) count (case_as (read_case read)) result (memory_in lent.new) }
 {
-    let told = one_record::take(p, table, rows, status, read);
-    let answer = told.answer;
-    let next = told.status;
-    adds(answer, next, count, read)
+    let did = one_record::take(lent, read);
+    adds(did, count, read)
 }

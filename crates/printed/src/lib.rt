@@ -6,11 +6,12 @@ pub mod lent;
 ghost use Rattle.std.specs.Prelude.{◌≡◌, ℕ, ◌≤◌, List, ◌∷◌};
 ghost use Rattle.property_form.specs.Form.{form_size};
 ghost use Rattle.property_form.specs.Read.{length_read};
-ghost use Rattle.line_text.specs.Text.{text_of};
-ghost use Rattle.printed.specs.Printed.{printed_of, opening_text, begun_of};
+ghost use Rattle.printed.specs.Printed.{printed_of, begun_of};
 
 use line_text::Text;
-use session_record::Session;
+use outcomes::Refusal;
+use session_record::{Lent, Session, made, rows_of, unfit};
+use table::Steps;
 
 // What one part of the input adds to the listing, and what the next part starts from.
 #[derive(Clone, Copy)]
@@ -27,36 +28,28 @@ pub struct Printed {
 pub fn record(s: Session, count: u64, bytes: &[u8]) -> Printed
     ensures { result ≡ printed_of s count bytes.now }
 {
-    if session_record::unfit(s) {
+    if unfit(s) {
         return Printed {
-            text: printout::stop(count, 10),
+            text: printout::stop(count, u64::from(Refusal::OutOfRange)),
             session: s,
-            count: count,
+            count,
             more: false,
         };
     }
-    let p = s.property;
-    let shared = s.shared;
-    let status = shared.status;
-    let clock = status.clock;
-    let table = table::table(p);
-    let mut rows = session_record::rows_of(s);
-    let read = record_form::read_record(bytes, clock.latest);
-    let r = lent::record(p, &table, &mut rows, status, count, read);
-    let text = r.text;
-    if r.more {
-        return Printed {
-            text: text,
-            session: session_record::made(p, &rows, r.status),
-            count: r.count,
-            more: true,
-        };
-    }
+    let steps = Steps::new(s.property);
+    let mut rows = rows_of(s);
+    let mut lent = Lent {
+        steps: &steps,
+        rows: &mut rows,
+        status: s.shared.status,
+    };
+    let read = record_form::read_record(bytes, lent.status.clock.latest);
+    let added = lent::record(&mut lent, count, read);
     Printed {
-        text: text,
-        session: s,
-        count: r.count,
-        more: false,
+        text: added.text,
+        session: if added.more { made(&lent) } else { s },
+        count: added.count,
+        more: added.more,
     }
 }
 
@@ -69,29 +62,22 @@ pub fn size(first: u8) -> usize
     (122 + 7 * n as usize + 7) / 8
 }
 
-// What the property adds behind the header.
-fn opening(refusal: u64) -> Text
-    ensures { result ≡ text_of (opening_text refusal) }
-{
-    if refusal == 0 {
-        return line_text::empty();
-    }
-    printout::stop(0, refusal)
-}
-
-// The property at the front of the bytes, and a fresh session for it.
+// The property at the front of the bytes, and a fresh session for it: nothing is added behind the header, or the last line.
 pub fn begin(bytes: &[u8]) -> Printed
     ensures { result ≡ begun_of bytes.now }
 {
-    let read = property_form::read_property(bytes);
-    let refusal = read.refusal;
-    let p = read.property;
-    let fresh = session::fresh(p);
-    let session = fresh.session;
-    Printed {
-        text: opening(refusal),
-        session: session,
-        count: 0,
-        more: refusal == 0,
+    match property_form::read_property(bytes) {
+        Ok(p) => Printed {
+            text: line_text::empty(),
+            session: session::fresh(p).session,
+            count: 0,
+            more: true,
+        },
+        Err(refusal) => Printed {
+            text: printout::stop(0, u64::from(refusal)),
+            session: session::fresh(property::none()).session,
+            count: 0,
+            more: false,
+        },
     }
 }

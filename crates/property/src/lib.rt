@@ -3,10 +3,20 @@
 
 ghost use Rattle.std.specs.Prelude.{◌≡◌, ◌≤◌};
 ghost use Rattle.meaning.specs.Numbers.{property_refusal, any_action_above};
+ghost use Rattle.outcomes.specs.Numbers.{refusal_in};
 ghost use Rattle.property.specs.Meant.{meant, sequence_of};
 ghost use Rattle.property.specs.Zeros.{zeros};
 
 use limits::{LAST_ACTION, LAST_BOUND, MOST_ACTIONS};
+use outcomes::Refusal;
+
+// A line of a log: is it an output, the number of its action, its stamp.
+#[derive(Clone, Copy)]
+pub struct Line {
+    pub output: bool,
+    pub action: u8,
+    pub stamp: u64,
+}
 
 #[derive(Clone, Copy)]
 pub struct Property {
@@ -52,24 +62,18 @@ fn above(p: Property) -> bool
     false
 }
 
-// Refusal 1, 2 or 3 of a property, the first that holds, else 0.
-pub fn refused(p: Property) -> u64
-    ensures { result ≡ property_refusal (meant p) }
+// Refusal 1, 2 or 3 of a property, the first that holds.
+pub fn refused(p: Property) -> Result<(), Refusal>
+    ensures { refusal_in result ≡ property_refusal (meant p) }
 {
-    if p.n < 1 {
-        return 1;
+    if p.n < 1 || MOST_ACTIONS < p.n {
+        return Err(Refusal::Length);
     }
-    if MOST_ACTIONS < p.n {
-        return 1;
+    if p.lb < 1 || p.ub < p.lb || LAST_BOUND < p.ub {
+        return Err(Refusal::Bounds);
     }
-    if p.lb < 1 {
-        return 2;
+    if above(p) {
+        return Err(Refusal::Number);
     }
-    if p.ub < p.lb {
-        return 2;
-    }
-    if LAST_BOUND < p.ub {
-        return 2;
-    }
-    if above(p) { 3 } else { 0 }
+    Ok(())
 }

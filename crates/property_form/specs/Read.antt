@@ -1,5 +1,5 @@
 -- What the reader of a packed property answers.
-use Rattle.std.specs.Prelude.{ℕ, zero, suc, ◌+◌, ◌-◌, ◌*◌, ◌^◌, Bool, false, not, List, ◌++◌, length, replicate, ltb, eqb}
+use Rattle.std.specs.Prelude.{ℕ, zero, suc, ◌+◌, ◌-◌, ◌*◌, ◌^◌, Bool, false, not, List, ◌++◌, length, replicate, ltb, eqb, Result, Ok, Err}
 use Rattle.meaning.specs.Limits.{most_actions}
 use Rattle.meaning.specs.Numbers.{given, first_of, property_refusal}
 use Rattle.meaning.specs.Calls.{unless_refused}
@@ -8,7 +8,8 @@ use Rattle.laws.specs.Places.{first}
 use Rattle.property.specs.Meant.{meant}
 pub use Rattle.property.specs.Zeros.{zeros}
 use Rattle.fields.specs.Fields.{bit, field}
-use Rattle.property_form.specs.declared.PropertyRead.{PropertyRead}
+use Rattle.outcomes.specs.declared.Refusal.{Refusal}
+use Rattle.outcomes.specs.Numbers.{refusal_number}
 use Rattle.property_form.specs.Form.{form_bits, form_size}
 
 -- The length field: "6 bits length n".
@@ -58,6 +59,15 @@ pad_broken s = not (eqb (pad_read s) 0)
 unfoldable pub read_refusal : List ℕ → ℕ
 read_refusal s =
     first_of (given 7 (too_short s)) (first_of (given 8 (pad_broken s)) (property_refusal (meant (property_read s))))
+
+-- What the reader answers in numbers: the refusal, and the property where it is 0.
+pub record PropertyRead : Type 0 where
+  pub refusal : ℕ
+  pub property : Property
+
+abbrev pub read_numbers : Result Property Refusal → PropertyRead
+read_numbers (Ok p) = record { refusal = 0; property = p }
+read_numbers (Err refusal) = record { refusal = refusal_number refusal; property = zeros }
 
 -- "A refusal carries 0 in all other numbers"
 abbrev pub answer : ℕ → Property → PropertyRead

@@ -8,22 +8,12 @@ ghost use Rattle.std.specs.Prelude.{◌≡◌, ◌<◌};
 ghost use Rattle.property.specs.Meant.{meant};
 ghost use Rattle.fields.specs.Rest.{Rest};
 ghost use Rattle.property_form.specs.Form.{form_size};
-ghost use Rattle.property_form.specs.Read.{read, taken};
-ghost use Rattle.property_form.specs.Write.{written, left};
+ghost use Rattle.property_form.specs.Read.{read, read_numbers, taken};
+ghost use Rattle.property_form.specs.Write.{written, written_numbers, left};
 
-// The refusal, and the property where it is 0; all zeros otherwise.
-#[derive(Clone, Copy)]
-pub struct PropertyRead {
-    pub refusal: u64,
-    pub property: property::Property,
-}
-
-// The refusal, and the number of bytes written where it is 0; 0 otherwise.
-#[derive(Clone, Copy)]
-pub struct Written {
-    pub refusal: u64,
-    pub size: usize,
-}
+use limits::MOST_ACTIONS;
+use outcomes::Refusal;
+use property::Property;
 
 // The number of bytes of a packed property of n actions.
 pub fn form_bytes(n: usize) -> usize
@@ -34,47 +24,27 @@ pub fn form_bytes(n: usize) -> usize
 }
 
 // Takes one packed property from the front of the bytes.
-pub fn read_property(s: &[u8]) -> PropertyRead
-    ensures { result ≡ read s.now }
+pub fn read_property(s: &[u8]) -> Result<Property, Refusal>
+    ensures { read_numbers result ≡ read s.now }
 {
-    let broken = read::broken(s);
-    if broken != 0 {
-        return PropertyRead {
-            refusal: broken,
-            property: property::none(),
-        };
-    }
+    read::whole(s)?;
     let n = read::length_of(s);
-    if limits::MOST_ACTIONS < n {
-        return PropertyRead {
-            refusal: 1,
-            property: property::none(),
-        };
+    if MOST_ACTIONS < n {
+        return Err(Refusal::Length);
     }
     let p = read::fields_of(s, n);
-    let refusal = property::refused(p);
-    if refusal != 0 {
-        return PropertyRead {
-            refusal,
-            property: property::none(),
-        };
-    }
-    PropertyRead {
-        refusal: 0,
-        property: p,
-    }
+    property::refused(p)?;
+    Ok(p)
 }
 
 // The number of bytes that the reader takes.
 fn taken_by(s: &[u8]) -> usize
     ensures { result ≡ taken s.now }
 {
-    let r = read_property(s);
-    if r.refusal != 0 {
-        return 0;
+    match read_property(s) {
+        Ok(p) => read::size_of(p.n),
+        Err(_) => 0,
     }
-    let n = read::length_of(s);
-    read::size_of(n)
 }
 
 // The bytes behind the packed property that the reader takes; all of them where it refuses.
@@ -85,23 +55,16 @@ pub fn property_rest(s: &[u8]) -> &[u8]
     &s[k..]
 }
 
-// Writes a packed property to the front of the buffer.
-pub fn write_property(p: property::Property, buf: &mut [u8]) -> Written
-    ensures { (result ≡ written (meant p) buf.old) × (buf.new ≡ left (meant p) buf.old) }
+// Writes a packed property to the front of the buffer, and gives the number of bytes written.
+pub fn write_property(p: Property, buf: &mut [u8]) -> Result<usize, Refusal>
+    ensures { (written_numbers result ≡ written (meant p) buf.old) × (buf.new ≡ left (meant p) buf.old) }
 {
-    let refusal = property::refused(p);
-    if refusal != 0 {
-        return Written { refusal, size: 0 };
-    }
-    let n = p.n;
-    let size = read::size_of(n);
+    property::refused(p)?;
+    let size = read::size_of(p.n);
     if buf.len() < size {
-        return Written {
-            refusal: 9,
-            size: 0,
-        };
+        return Err(Refusal::NoRoom);
     }
     let list = write::bits_of(p);
     fields::pack(&list, size, buf);
-    Written { refusal: 0, size }
+    Ok(size)
 }

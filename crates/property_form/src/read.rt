@@ -1,9 +1,12 @@
 // The parts of the reader.
 ghost use Rattle.std.specs.Prelude.{◌≡◌, false, ◌+◌, ◌*◌, ◌≤◌, ◌<◌, length};
 ghost use Rattle.meaning.specs.Numbers.{given, first_of};
+ghost use Rattle.outcomes.specs.Numbers.{refusal_in};
 ghost use Rattle.fields.specs.Fields.{bit};
 ghost use Rattle.property_form.specs.Form.{form_bits, form_size};
 ghost use Rattle.property_form.specs.Read.{length_read, places, output_read, number_read, mask, property_read, too_short, pad_broken};
+
+use outcomes::Refusal;
 
 pub fn size_of(n: usize) -> usize
     requires { n < 64 }
@@ -21,23 +24,22 @@ pub fn length_of(s: &[u8]) -> usize
 }
 
 // Refusal 7 or 8 of the bytes.
-pub fn broken(s: &[u8]) -> u64
-    ensures { result ≡ first_of (given 7 (too_short s.now)) (given 8 (pad_broken s.now)) }
+pub fn whole(s: &[u8]) -> Result<(), Refusal>
+    ensures { refusal_in result ≡ first_of (given 7 (too_short s.now)) (given 8 (pad_broken s.now)) }
 {
     if s.len() < 1 {
-        return 7;
+        return Err(Refusal::TooShort);
     }
     let n = length_of(s);
     let size = size_of(n);
     if s.len() < size {
-        return 7;
+        return Err(Refusal::TooShort);
     }
     let end = 122 + 7 * n;
-    if fields::field_at(s, end, 8 * size - end) == 0 {
-        0
-    } else {
-        8
+    if fields::field_at(s, end, 8 * size - end) != 0 {
+        return Err(Refusal::Broken);
     }
+    Ok(())
 }
 
 // Which actions are outputs.

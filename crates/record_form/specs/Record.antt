@@ -1,12 +1,14 @@
 -- Document 01, "Packed forms": the record, its reader and its writer.
-use Rattle.std.specs.Prelude.{ℕ, zero, suc, ◌+◌, ◌-◌, Bool, not, ◌&&◌, ◌||◌, List, ◌++◌, ◌≡◌, length, drop, ltb, eqb}
+use Rattle.std.specs.Prelude.{ℕ, zero, suc, ◌+◌, ◌-◌, Bool, not, ◌&&◌, ◌||◌, List, ◌++◌, ◌≡◌, length, drop, ltb, eqb, Result, Ok, Err}
 pub use Rattle.laws.specs.Bytes.{Bytes}
 use Rattle.meaning.specs.Limits.{last_action, last_stamp}
 use Rattle.meaning.specs.Numbers.{given, first_of}
 use Rattle.meaning.specs.Calls.{unless_refused}
 use Rattle.fields.specs.Fields.{field, bits, form}
-use Rattle.record_form.specs.declared.RecordRead.{RecordRead}
-use Rattle.record_form.specs.declared.RecordRead.TheVariants.{Input, Output, Gap, End, Refused}
+use Rattle.outcomes.specs.declared.Refusal.{Refusal}
+use Rattle.outcomes.specs.Numbers.{refusal_number}
+use Rattle.record_form.specs.declared.Record.{Record}
+use Rattle.record_form.specs.declared.Record.TheVariants.{Input, Output, Gap, End}
 
 -- "Record, 6 bytes"
 abbrev pub record_size : ℕ
@@ -44,21 +46,36 @@ refused number = record { refusal = number; kind = 0; action = 0; stamp = 0 }
 unfoldable pub answered : ℕ → RecordAnswer → RecordAnswer
 answered number answer = unless_refused number answer (refused number)
 
+-- What was read: one of four records, or the number of a refusal.
+pub data RecordRead : Type 0 where
+  input_read : ℕ → ℕ → RecordRead
+  output_read : ℕ → ℕ → RecordRead
+  gap_read : ℕ → ℕ → RecordRead
+  end_read : ℕ → RecordRead
+  refused_read : ℕ → RecordRead
+
 -- "When an answer is an enum, a definition gives this paper's number and values for each of its cases."
+abbrev pub read_case : Result Record Refusal → RecordRead
+read_case (Ok (Input action stamp)) = RecordRead.input_read action stamp
+read_case (Ok (Output action stamp)) = RecordRead.output_read action stamp
+read_case (Ok (Gap lost stamp)) = RecordRead.gap_read lost stamp
+read_case (Ok (End stamp)) = RecordRead.end_read stamp
+read_case (Err refusal) = RecordRead.refused_read (refusal_number refusal)
+
 abbrev pub numbers : RecordRead → RecordAnswer
-numbers (Input action stamp) = taken input action stamp
-numbers (Output action stamp) = taken output action stamp
-numbers (Gap lost stamp) = taken gap lost stamp
-numbers (End stamp) = taken end 0 stamp
-numbers (Refused number) = refused number
+numbers (RecordRead.input_read action stamp) = taken input action stamp
+numbers (RecordRead.output_read action stamp) = taken output action stamp
+numbers (RecordRead.gap_read lost stamp) = taken gap lost stamp
+numbers (RecordRead.end_read stamp) = taken end 0 stamp
+numbers (RecordRead.refused_read number) = refused number
 
 -- The case of the enum for a refusal, a kind, an action and a stamp: "two bits of kind decide among four records"
 unfoldable pub case_by : ℕ → ℕ → ℕ → ℕ → RecordRead
-case_by zero zero action stamp = Input action stamp
-case_by zero (suc zero) action stamp = Output action stamp
-case_by zero (suc (suc zero)) action stamp = Gap action stamp
-case_by zero (suc (suc (suc more))) action stamp = End stamp
-case_by (suc number) kind action stamp = Refused (suc number)
+case_by zero zero action stamp = RecordRead.input_read action stamp
+case_by zero (suc zero) action stamp = RecordRead.output_read action stamp
+case_by zero (suc (suc zero)) action stamp = RecordRead.gap_read action stamp
+case_by zero (suc (suc (suc more))) action stamp = RecordRead.end_read stamp
+case_by (suc number) kind action stamp = RecordRead.refused_read (suc number)
 
 -- The case of the enum for an answer.
 abbrev pub case_of : RecordAnswer → RecordRead

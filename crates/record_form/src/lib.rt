@@ -1,18 +1,21 @@
 // The packed record of document 01: its reader, the rest behind it, and its writer.
 #![tactic(auto)]
 
-ghost use Rattle.std.specs.Prelude.{◌≡◌, ◌++◌, ◌+◌, ◌≤◌, ◌<◌, length, drop, eqb};
+ghost use Rattle.std.specs.Prelude.{◌≡◌, true, false, ◌++◌, ◌+◌, ◌≤◌, ◌<◌, length, drop, eqb, MatchResult};
+ghost use Rattle.outcomes.specs.Numbers.{refusal_in};
+ghost use Rattle.outcomes.specs.declared.Refusal.TheVariants.{StampTooLate};
 ghost use Rattle.fields.specs.Rest.{Rest};
-ghost use Rattle.record_form.specs.Record.{record_size, numbers, case_of, taken, answered, broken, stamp_above, fields_refusal, IsRead, bytes_read, write_refusal, record_form, IsWritten};
+ghost use Rattle.record_form.specs.Record.{record_size, numbers, read_case, taken, answered, broken, stamp_above, fields_refusal, IsRead, bytes_read, write_refusal, record_form, IsWritten};
 
 use limits::{LAST_ACTION, LAST_STAMP};
+use outcomes::Refusal;
 
 // "Record, 6 bytes"
 pub const RECORD_SIZE: usize = 6;
 
-// What the reader answers: one of four records, or the number of a refusal.
+// A record that was read.
 #[derive(Clone, Copy)]
-pub enum RecordRead {
+pub enum Record {
     // The action and the stamp.
     Input(u8, u64),
     Output(u8, u64),
@@ -20,66 +23,44 @@ pub enum RecordRead {
     Gap(u8, u64),
     // The stamp.
     End(u64),
-    // The number.
-    Refused(u64),
 }
 
-// The stamp before, or the sum of it and the field, is past the limit.
-fn sum_above(before: u64, less: u64) -> bool
-    ensures { result ≡ stamp_above (before + less) before }
+// The stamp that lies so much behind the one before. That one, or the sum, may be past the limit.
+fn stamp_behind(before: u64, less: u64) -> Result<u64, Refusal>
+    ensures { MatchResult result (λ stamp. (stamp ≡ before + less) × (stamp_above (before + less) before ≡ false))
+        (λ refusal. (refusal ≡ StampTooLate) × (stamp_above (before + less) before ≡ true)) }
 {
-    if LAST_STAMP < before {
-        return true;
+    if LAST_STAMP < before || LAST_STAMP - before < less {
+        return Err(Refusal::StampTooLate);
     }
-    LAST_STAMP - before < less
+    Ok(before + less)
 }
 
 // The record that these fields are, by its kind, each with its own rules.
-pub fn record_of(kind: u64, action: u8, less: u64, before: u64) -> RecordRead
+pub fn record_of(kind: u64, action: u8, less: u64, before: u64) -> Result<Record, Refusal>
     requires { kind < 4 }
-    ensures { result ≡ case_of (answered (fields_refusal kind action less before) (taken kind action (before + less))) }
+    ensures { numbers (read_case result) ≡ answered (fields_refusal kind action less before) (taken kind action (before + less)) }
 {
     match kind {
-        0 => {
-            if sum_above(before, less) {
-                return RecordRead::Refused(4);
-            }
-            RecordRead::Input(action, before + less)
-        }
-        1 => {
-            if sum_above(before, less) {
-                return RecordRead::Refused(4);
-            }
-            RecordRead::Output(action, before + less)
-        }
-        2 => {
-            if sum_above(before, less) {
-                return RecordRead::Refused(4);
-            }
-            RecordRead::Gap(action, before + less)
-        }
+        0 => Ok(Record::Input(action, stamp_behind(before, less)?)),
+        1 => Ok(Record::Output(action, stamp_behind(before, less)?)),
+        2 => Ok(Record::Gap(action, stamp_behind(before, less)?)),
         // 3: two bits hold no other.
         _ => {
-            if action != 0 {
-                return RecordRead::Refused(8);
+            if action != 0 || less != 0 {
+                return Err(Refusal::Broken);
             }
-            if less != 0 {
-                return RecordRead::Refused(8);
-            }
-            if LAST_STAMP < before {
-                return RecordRead::Refused(4);
-            }
-            RecordRead::End(before)
+            Ok(Record::End(stamp_behind(before, less)?))
         }
     }
 }
 
 // Reads one record from the front of `s`; `before` is the stamp before it.
-pub fn read_record(s: &[u8], before: u64) -> RecordRead
-    ensures { IsRead s.now before result }
+pub fn read_record(s: &[u8], before: u64) -> Result<Record, Refusal>
+    ensures { IsRead s.now before (read_case result) }
 {
     if s.len() < RECORD_SIZE {
-        return RecordRead::Refused(7);
+        return Err(Refusal::TooShort);
     }
     record_of(
         record_fields::kind_field(s),
@@ -90,16 +71,10 @@ pub fn read_record(s: &[u8], before: u64) -> RecordRead
 }
 
 // The reader took a record.
-pub fn is_taken(read: RecordRead) -> bool
-    ensures { result ≡ eqb (numbers read).refusal 0 }
+pub fn is_taken(read: Result<Record, Refusal>) -> bool
+    ensures { result ≡ eqb (numbers (read_case read)).refusal 0 }
 {
-    match read {
-        RecordRead::Input(_, _) => true,
-        RecordRead::Output(_, _) => true,
-        RecordRead::Gap(_, _) => true,
-        RecordRead::End(_) => true,
-        RecordRead::Refused(number) => number == 0,
-    }
+    read.is_ok()
 }
 
 // What `read_record` leaves unread of the caller's own bytes: all of them where it refuses.
@@ -131,29 +106,26 @@ fn to_be_broken(kind: u8, action: u8, later: bool) -> bool
     }
 }
 
-// The refusal of a record to be written, 0 for none.
-fn refusal(kind: u8, action: u8, stamp: u64, before: u64, size: usize) -> u64
-    ensures { result ≡ write_refusal kind action stamp before size }
+// The refusal of a record to be written.
+fn refused(kind: u8, action: u8, stamp: u64, before: u64, size: usize) -> Result<(), Refusal>
+    ensures { refusal_in result ≡ write_refusal kind action stamp before size }
 {
     if to_be_broken(kind, action, stamp != before) {
-        return 8;
+        return Err(Refusal::Broken);
     }
     if LAST_ACTION < action {
-        return 3;
+        return Err(Refusal::Number);
     }
-    if LAST_STAMP < stamp {
-        return 4;
-    }
-    if LAST_STAMP < before {
-        return 4;
+    if LAST_STAMP < stamp || LAST_STAMP < before {
+        return Err(Refusal::StampTooLate);
     }
     if stamp < before {
-        return 5;
+        return Err(Refusal::StampTooEarly);
     }
     if size < RECORD_SIZE {
-        return 9;
+        return Err(Refusal::NoRoom);
     }
-    0
+    Ok(())
 }
 
 // Puts the form of a record with these fields at the front of `buf`.
@@ -168,14 +140,11 @@ fn put_record(kind: u8, action: u8, less: u64, buf: &mut [u8])
     fields::pack(&list, RECORD_SIZE, buf);
 }
 
-// Writes a record to the front of `buf`; `before` is the stamp before it. Gives the refusal, 0 where it is written.
-pub fn write_record(kind: u8, action: u8, stamp: u64, before: u64, buf: &mut [u8]) -> u64
-    ensures { IsWritten kind action stamp before buf.old buf.new result }
+// Writes a record to the front of `buf`; `before` is the stamp before it.
+pub fn write_record(kind: u8, action: u8, stamp: u64, before: u64, buf: &mut [u8]) -> Result<(), Refusal>
+    ensures { IsWritten kind action stamp before buf.old buf.new (refusal_in result) }
 {
-    let number = refusal(kind, action, stamp, before, buf.len());
-    if number != 0 {
-        return number;
-    }
+    refused(kind, action, stamp, before, buf.len())?;
     put_record(kind, action, stamp - before, buf);
-    0
+    Ok(())
 }

@@ -4,21 +4,20 @@
 ghost use Rattle.std.specs.Prelude.{◌≡◌, cond, ◌+◌, ◌-◌, ◌≤◌, ◌<◌, length};
 ghost use Rattle.meaning.specs.Limits.{last_stamp, most_open};
 ghost use Rattle.meaning.specs.Matcher.{at_start};
-ghost use Rattle.table.specs.Table.{IsTable};
 ghost use Rattle.matcher.specs.Sets.{cut_of};
 ghost use Rattle.rows.specs.Rows.{none, Room};
 ghost use Rattle.held.specs.Held.{Closes};
 ghost use Rattle.cuts.specs.Steps.{line_of, front_after};
 ghost use Rattle.cuts.specs.Fronts.{with_cut, front_of, Usable};
-ghost use Rattle.session_record.specs.Lent.{LineTaken};
+ghost use Rattle.run_line.specs.Taken.{LineTaken};
 
-use answers::taken;
+use answers::Reply;
 use clock::Clock;
 use held::Status;
-use property::Property;
+use property::Line;
 use rows::{Span, Words};
-use session_record::Reply;
-use table::Table;
+use session_record::Told;
+use table::Steps;
 
 // The one cut of a run with no line.
 pub fn begin(rows: &mut [Words]) -> Span
@@ -32,28 +31,32 @@ pub fn begin(rows: &mut [Words]) -> Span
 
 // One line of the run that the rows hold, for which there is room. `clock` is the one after it.
 pub fn run_on(
-    p: Property,
-    table: &Table,
+    steps: &Steps,
     rows: &mut [Words],
     span: Span,
     clock: Clock,
     closed: usize,
-    output: bool,
-    action: u8,
-    stamp: u64,
+    line: Line,
 ) -> Reply
-    requires usable { Usable p rows.old span 0 × IsTable p table.now }
-    requires closes { Closes p.ub rows.old span stamp closed × (stamp ≤ last_stamp) × (span.count - closed + cond output 0 1 ≤ most_open) }
-    ensures { LineTaken p (front_after p (front_of rows.old span 0) (line_of output action stamp)) clock rows.new result }
+    requires usable { Usable steps.now.property rows.old span 0 }
+    requires closes { Closes steps.now.property.ub rows.old span line.stamp closed × (line.stamp ≤ last_stamp) × (span.count - closed + cond line.output 0 1 ≤ most_open) }
+    ensures { LineTaken steps.now.property
+        (front_after steps.now.property (front_of rows.old span 0) (line_of line.output line.action line.stamp)) clock rows.new result }
 {
-    let left = cuts::take_line(p, table, rows, span, closed, output, action as u64, stamp);
-    let verdict = cuts::verdict(rows, left, 0);
-    let status = Status {
-        span: left,
-        clock: clock,
-    };
+    let left = cuts::take_line(
+        steps,
+        rows,
+        span,
+        closed,
+        line.output,
+        u64::from(line.action),
+        line.stamp,
+    );
     Reply {
-        answer: taken(verdict, left.count),
-        status: status,
+        told: Told {
+            verdict: cuts::verdict(rows, left, 0),
+            open_count: left.count as u64,
+        },
+        status: Status { span: left, clock },
     }
 }

@@ -18,11 +18,9 @@ use Rattle.held.specs.declared.Status.{Status}
 use Rattle.cuts.specs.Steps.{front_says, says}
 use Rattle.cuts.specs.Fronts.{cut_at, Holds}
 use Rattle.session_record.specs.declared.Session.{Session}
-use Rattle.session_record.specs.declared.Answer.{Answer}
-use Rattle.session_record.specs.declared.Reply.{Reply}
 use Rattle.session_record.specs.declared.Pair.{Pair}
 use Rattle.session_record.specs.Record.{rows_of, cuts_in, record_of}
-use Rattle.session_record.specs.Step.{answer_of, stepped_of}
+use Rattle.session_record.specs.Step.{Answer, stepped_of}
 
 -- What is lent: the rows, with what stands beside them, of a session with a property.
 pub record Memory : Type 0 where
@@ -67,12 +65,6 @@ pub record Ready (m : Memory) : Type 0 where
 pub record Advanced (m : Memory) (c : Call) (a : Answer) (after : Memory) : Type 0 where
   pub stepped : stepped_of (record_in m) c ≡ record { answer = a; session = record_in after }
   pub ready : Ready after
-
--- A line of a run, taken: the rows hold the front after it, and the answer is read off that front.
-pub record LineTaken (p : Property) (f : Front Lengths) (clock : Clock) (rows : List (List ℕ)) (r : Reply) : Type 0 where
-  pub holds : Holds p f rows r.status.span 0
-  pub answered : r.answer ≡ answer_of (says p (front_says p f) (length f.held))
-  pub clocked : r.status.clock ≡ clock
 
 -- The record of arrays and what stands beside them, as they are.
 abbrev pub of_arrays : Property → List ℕ → List ℕ → List ℕ → List ℕ → Status → Session

@@ -1,20 +1,24 @@
 // The session record, which the caller keeps; the rows of it that are lent, and the way back; what calls on it give back; refusal 10.
 #![tactic(auto)]
 
+mod loan;
+
 ghost use Rattle.std.specs.Prelude.{◌+◌, ◌≤◌, ◌<◌, ◌≡◌, cond, length};
-ghost use Rattle.meaning.specs.Calls;
 ghost use Rattle.rows.specs.declared.Span.{Span};
 ghost use Rattle.rows.specs.Rows.{Within, Room};
 ghost use Rattle.session_record.specs.Record.{rows_of, out_of_range};
-ghost use Rattle.session_record.specs.Step.{answer_of};
-ghost use Rattle.session_record.specs.Lent.{memory, record_in, Ready, of_arrays, packed_pair, packed_of};
+ghost use Rattle.session_record.specs.Lent.{record_in, of_arrays, packed_pair, packed_of};
+ghost use Rattle.session_record.specs.Loan.{memory_in};
 ghost use Rattle.session_record.specs.Lent;
+
+pub use loan::Lent;
 
 use clock::Clock;
 use cuts::Row;
 use held::{Shared, Status};
 use limits::{LAST_STAMP, MOST_OPEN};
 use matcher::Cut;
+use outcomes::{Refusal, Verdict};
 use property::Property;
 use rows::{LAST_PLACE, Span, Words};
 
@@ -27,26 +31,21 @@ pub struct Session {
     pub row: Row,
 }
 
-// Refusal number, verdict and number open.
+// What is told of a call that is taken: the verdict, and the number open.
 #[derive(Clone, Copy)]
-pub struct Answer {
-    pub refusal: u64,
-    pub verdict: u64,
+pub struct Told {
+    pub verdict: Verdict,
     pub open_count: u64,
 }
 
-// What a call gives back.
+// What a call answers.
+pub type Answer = Result<Told, Refusal>;
+
+// What a call gives back: where it is refused, the session as it was.
 #[derive(Clone, Copy)]
 pub struct Stepped {
     pub answer: Answer,
     pub session: Session,
-}
-
-// What a call on lent rows gives back beside them.
-#[derive(Clone, Copy)]
-pub struct Reply {
-    pub answer: Answer,
-    pub status: Status,
 }
 
 // The rows of one session, in the order in which they are lent: stamps, actions, and the two words of each cut.
@@ -70,7 +69,7 @@ pub fn unfit(s: Session) -> bool
     ensures { result ≡ out_of_range s }
 {
     let p = s.property;
-    if property::refused(p) != 0 {
+    if property::refused(p).is_err() {
         return true;
     }
     let shared = s.shared;
@@ -179,14 +178,13 @@ fn cuts_in_use(count: usize, blind: bool) -> usize
 }
 
 // The record for the caller, of what the rows hold: nothing stands in places not in use.
-pub fn made(p: Property, rows: &[Words], status: Status) -> Session
-    requires { Ready (memory p rows.now status) }
-    ensures { result ≡ record_in (memory p rows.now status) }
+pub fn made(lent: &Lent<'_>) -> Session
+    ensures { result ≡ record_in (memory_in lent.now) }
 {
-    let span = status.span;
-    let clock = status.clock;
+    let span = lent.status.span;
+    let clock = lent.status.clock;
     let cuts = cuts_in_use(span.count, clock.blind);
-    stored(p, rows, span, cuts, clock)
+    stored(lent.steps.property, lent.rows, span, cuts, clock)
 }
 
 // A record with no open input, its one cut as given.
@@ -202,15 +200,4 @@ pub fn blank(p: Property, first: Cut) -> Session
         clock: clock::fresh(),
     };
     of_arrays(p, [0u64; 65], [0u64; 65], masks, armed, status)
-}
-
-// "A refusal carries 0 in all other numbers"
-pub fn refused(number: u64) -> Answer
-    ensures { result ≡ answer_of (Calls.refused number) }
-{
-    Answer {
-        refusal: number,
-        verdict: 0,
-        open_count: 0,
-    }
 }

@@ -3,15 +3,18 @@
 
 ghost use Rattle.std.specs.Prelude.{◌≡◌};
 ghost use Rattle.meaning.specs.Numbers.{property_refusal};
+ghost use Rattle.outcomes.specs.Numbers.{number_told};
 ghost use Rattle.property.specs.Meant.{meant};
 ghost use Rattle.session_record.specs.Step.{standing};
-ghost use Rattle.session_record.specs.Lent.{memory, record_in, Ready};
-ghost use Rattle.stretch.specs.Judge.{refused, trace_judged, judge_of, one_number};
+ghost use Rattle.session_record.specs.Lent.{record_in};
+ghost use Rattle.session_record.specs.Loan.{memory_in};
+ghost use Rattle.stretch.specs.Judge.{judged_in, trace_judged, judge_of, one_number};
 ghost use Rattle.stretch.specs.Version.{interface_version};
 
-use held::Status;
+use outcomes::{Refusal, Verdict};
 use property::Property;
-use rows::Words;
+use session_record::{Lent, rows_of};
+use table::Steps;
 use walk::Stop;
 
 // "the count at most 16,383"
@@ -20,77 +23,59 @@ const MOST_COUNTED: usize = 16383;
 // ANTHEGYRA_VERSION of include/anthegyra.h.
 const VERSION: u64 = 4;
 
-// Verdict and number of records taken, or the refusal alone.
+// Verdict and number of records taken.
 #[derive(Clone, Copy)]
 pub struct Judged {
-    pub refusal: u64,
-    pub verdict: u64,
+    pub verdict: Verdict,
     pub count: usize,
 }
 
-fn refusal(number: u64) -> Judged
-    ensures { result ≡ refused number }
+// The verdict standing on a session.
+fn verdict_of(lent: &Lent<'_>) -> Verdict
+    ensures { number_told result ≡ standing (record_in (memory_in lent.now)) }
 {
-    Judged {
-        refusal: number,
-        verdict: 0,
-        count: 0,
+    if lent.status.clock.blind {
+        return Verdict::Blind;
     }
-}
-
-// The verdict standing on the session that these rows hold.
-fn verdict_of(p: Property, rows: &[Words], status: Status) -> u64
-    requires { Ready (memory p rows.now status) }
-    ensures { result ≡ standing (record_in (memory p rows.now status)) }
-{
-    let clock = status.clock;
-    if clock.blind {
-        return 3;
-    }
-    cuts::verdict(rows, status.span, 0) as u64
+    cuts::verdict(lent.rows, lent.status.span, 0)
 }
 
 // The trace, by a property that is taken.
-fn trace_verdict(p: Property, trace: &[u8]) -> Judged
+fn trace_verdict(p: Property, trace: &[u8]) -> Result<Judged, Refusal>
     requires { property_refusal (meant p) ≡ 0 }
-    ensures { result ≡ trace_judged p trace.now }
+    ensures { judged_in result ≡ trace_judged p trace.now }
 {
-    let table = table::table(p);
-    let fresh = session::fresh(p);
-    let s = fresh.session;
-    let shared = s.shared;
-    let mut rows = session_record::rows_of(s);
-    let r = walk::records(p, &table, &mut rows, shared.status, trace, trace.len());
-    let stop = r.stop;
-    match stop {
-        Stop::Budget => refusal(7),
+    let steps = Steps::new(p);
+    let s = session::fresh(p).session;
+    let mut rows = rows_of(s);
+    let mut lent = Lent {
+        steps: &steps,
+        rows: &mut rows,
+        status: s.shared.status,
+    };
+    let went = walk::records(&mut lent, trace, trace.len());
+    match went.stop {
+        Stop::Budget => Err(Refusal::TooShort),
         Stop::End => {
-            if r.read < trace.len() {
-                return refusal(8);
+            if went.read < trace.len() {
+                return Err(Refusal::Broken);
             }
-            let verdict = verdict_of(p, &rows, r.status);
-            Judged {
-                refusal: 0,
-                verdict: verdict,
-                count: r.taken,
-            }
+            Ok(Judged {
+                verdict: verdict_of(&lent),
+                count: went.taken,
+            })
         }
-        Stop::Refused(number) => refusal(number),
+        Stop::Refused(refusal) => Err(refusal),
     }
 }
 
 // Judges a whole packed property, then a whole trace.
-pub fn judge(property: &[u8], trace: &[u8]) -> Judged
-    ensures { result ≡ judge_of property.now trace.now }
+pub fn judge(property: &[u8], trace: &[u8]) -> Result<Judged, Refusal>
+    ensures { judged_in result ≡ judge_of property.now trace.now }
 {
-    let read = property_form::read_property(property);
-    let number = read.refusal;
-    if number != 0 {
-        return refusal(number);
-    }
-    let p = read.property;
+    let p = property_form::read_property(property)?;
     if property_form::form_bytes(p.n) < property.len() {
-        return refusal(8);
+        return Err(Refusal::Broken);
     }
     trace_verdict(p, trace)
 }
@@ -99,11 +84,15 @@ pub fn judge(property: &[u8], trace: &[u8]) -> Judged
 pub fn anthegyra_stretch_judge(property: &[u8], trace: &[u8]) -> u64
     ensures { result ≡ one_number (judge_of property.now trace.now) }
 {
-    let judged = judge(property, trace);
-    if MOST_COUNTED < judged.count {
-        return 9 * 65536;
+    match judge(property, trace) {
+        Ok(judged) => {
+            if MOST_COUNTED < judged.count {
+                return u64::from(Refusal::NoRoom) * 65536;
+            }
+            u64::from(judged.verdict) * 16384 + judged.count as u64
+        }
+        Err(refusal) => u64::from(refusal) * 65536,
     }
-    judged.refusal * 65536 + judged.verdict * 16384 + (judged.count as u64)
 }
 
 // Which header the archive goes with.

@@ -207,14 +207,22 @@ fn table_of(outputs: &[bool; 32], numbers: &[u8; 32], n: usize, table: &mut Tabl
     }
 }
 
-// The table of a property that refusals 1, 2 and 3 do not name.
-pub fn table(p: Property) -> Table
-    requires { property_refusal (meant p) ≡ 0 }
-    ensures { IsTable p result }
-{
-    let mut steps = [0u8; 4257];
-    let outputs = p.output;
-    let numbers = p.number;
-    table_of(&outputs, &numbers, p.n, &mut steps);
-    steps
+// A property that refusals 1, 2 and 3 do not name, and the table of its steps: made once, and lent to every line.
+#[derive(Clone, Copy)]
+pub struct Steps {
+    pub property: Property,
+    pub table: Table,
+    pub ghost formed: { property_refusal (meant property) ≡ 0 },
+    pub ghost made: { IsTable property table },
+}
+
+impl Steps {
+    pub fn new(property: Property) -> Self
+        requires { property_refusal (meant property) ≡ 0 }
+        ensures { result.property ≡ property }
+    {
+        let mut table = [0u8; 4257];
+        table_of(&property.output, &property.number, property.n, &mut table);
+        Steps { property, table }
+    }
 }

@@ -4,11 +4,12 @@
 ghost use Rattle.std.specs.Prelude.{◌≡◌, ◌+◌, ◌%◌, ◌^◌, ◌<◌, ◌≤◌, length};
 ghost use Rattle.fields.specs.Fields.{field};
 ghost use Rattle.fields.specs.Rest.{Rest};
-ghost use Rattle.record_form.specs.Record.{case_of, taken, answered};
+ghost use Rattle.record_form.specs.Record.{numbers, read_case, taken, answered};
 ghost use Rattle.tap_form.specs.Tap.{tap_size, since, tap_stamp, tap_action, tap_fields_refusal, IsTapRead, tap_bytes_read};
 
 use limits::MOST_LOST;
-use record_form::RecordRead;
+use outcomes::Refusal;
+use record_form::Record;
 
 // "records of 5 bytes"
 pub const TAP_SIZE: usize = 5;
@@ -37,14 +38,15 @@ fn time_since(counter: u32, before: u64) -> u64
 
 // The record that these fields are: by its kind as in document 01, but that the counter of an end is no time, and is 0, and that the card
 // does not say how many lines a gap lost.
-fn tap_of(kind: u64, action: u8, counter: u32, before: u64) -> RecordRead
+fn tap_of(kind: u64, action: u8, counter: u32, before: u64) -> Result<Record, Refusal>
     requires { kind < 4 }
-    ensures { result ≡ case_of (answered (tap_fields_refusal kind action counter before) (taken kind (tap_action kind action) (tap_stamp kind counter before))) }
+    ensures { numbers (read_case result)
+        ≡ answered (tap_fields_refusal kind action counter before) (taken kind (tap_action kind action) (tap_stamp kind counter before)) }
 {
     match kind {
         2 => {
             if action != 0 {
-                return RecordRead::Refused(8);
+                return Err(Refusal::Broken);
             }
             record_form::record_of(kind, MOST_LOST, time_since(counter, before), before)
         }
@@ -54,11 +56,11 @@ fn tap_of(kind: u64, action: u8, counter: u32, before: u64) -> RecordRead
 }
 
 // Reads one of the card's records from the front of `s`; `before` is the stamp before it, 0 before the first.
-pub fn read_tap(s: &[u8], before: u64) -> RecordRead
-    ensures { IsTapRead s.now before result }
+pub fn read_tap(s: &[u8], before: u64) -> Result<Record, Refusal>
+    ensures { IsTapRead s.now before (read_case result) }
 {
     if s.len() < TAP_SIZE {
-        return RecordRead::Refused(7);
+        return Err(Refusal::TooShort);
     }
     tap_of(
         record_fields::kind_field(s),

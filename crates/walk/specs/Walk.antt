@@ -7,21 +7,33 @@ use Rattle.trace_form.specs.ReadAs.{ReadAs, read_as}
 use Rattle.session_record.specs.declared.Session.{Session}
 use Rattle.session_record.specs.Record.{latest_of, out_of_range}
 use Rattle.session_record.specs.Step.{stepped_of}
+use Rattle.outcomes.specs.Numbers.{refusal_number}
 use Rattle.walk.specs.declared.Stop.{Stop}
 use Rattle.walk.specs.declared.Stop.TheVariants.{Budget, End, Refused}
 use Rattle.walk.specs.declared.Walked.{Walked}
 
+-- How a walk stops: the budget is used up, at an end record, or at a refusal with its number.
+pub data Stopping : Type 0 where
+  budget : Stopping
+  end : Stopping
+  refused : ℕ → Stopping
+
+abbrev pub stop_in : Stop → Stopping
+stop_in Budget = Stopping.budget
+stop_in End = Stopping.end
+stop_in (Refused refusal) = Stopping.refused (refusal_number refusal)
+
 -- Document 01 numbers no way to stop; these are ours: 0 the budget is used up, 1 an end record, 2 a refusal.
-abbrev pub stop_number : Stop → ℕ
-stop_number Budget = 0
-stop_number End = 1
-stop_number (Refused n) = 2
+abbrev pub stop_number : Stopping → ℕ
+stop_number Stopping.budget = 0
+stop_number Stopping.end = 1
+stop_number (Stopping.refused n) = 2
 
 -- "the refusal if any"
-abbrev pub stop_refusal : Stop → ℕ
-stop_refusal Budget = 0
-stop_refusal End = 0
-stop_refusal (Refused n) = n
+abbrev pub stop_refusal : Stopping → ℕ
+stop_refusal Stopping.budget = 0
+stop_refusal Stopping.end = 0
+stop_refusal (Stopping.refused n) = n
 
 -- What one record does to a session: it ends the trace, is refused, or is taken as a call, with the session after it.
 pub data One : Type 0 where
@@ -50,11 +62,11 @@ one_of s bytes = one_read s (read_as (record_answer bytes (latest_of s)))
 -- What a walk comes to: the number of records taken, how it stopped, the number of bytes read, the session.
 pub record Walk : Type 0 where
   pub taken : ℕ
-  pub stop : Stop
+  pub stop : Stopping
   pub read : ℕ
   pub session : Session
 
-abbrev pub stopped : Session → Stop → ℕ → Walk
+abbrev pub stopped : Session → Stopping → ℕ → Walk
 stopped s stop read = record { taken = 0; stop = stop; read = read; session = s }
 
 -- One record more at the front of a walk.
@@ -63,14 +75,14 @@ one_more w = record { taken = suc w.taken; stop = w.stop; read = record_size + w
 
 -- What a record leads to; `more` is the walk over the bytes behind it. What is refused leaves the session as it was.
 unfoldable pub walked_by : One → Session → (Session → Walk) → Walk
-walked_by One.ended s more = stopped s End record_size
-walked_by (One.refused n) s more = stopped s (Refused n) 0
+walked_by One.ended s more = stopped s Stopping.end record_size
+walked_by (One.refused n) s more = stopped s (Stopping.refused n) 0
 walked_by (One.took c after) s more = one_more (more after)
 
 -- "the walk stops when the given number of records has been taken, or at an end record, or at a refusal, whichever is first.
 -- With budget 0 left nothing more is read."
 unfoldable pub walk_on : ℕ → Session → List ℕ → Walk
-walk_on zero s bytes = stopped s Budget 0
+walk_on zero s bytes = stopped s Stopping.budget 0
 walk_on (suc budget) s bytes = walked_by (one_of s bytes) s (λ after. walk_on budget after (drop record_size bytes))
 
 -- "a budget of 0 to 4,096 records (more counts as 4,096)"
@@ -108,8 +120,8 @@ abbrev pub in_numbers : Walked → Walking
 in_numbers w =
     record {
       taken = w.taken;
-      stop = stop_number w.stop;
-      refusal = stop_refusal w.stop;
+      stop = stop_number (stop_in w.stop);
+      refusal = stop_refusal (stop_in w.stop);
       read = w.read;
       lost = w.lost;
       session = w.session;
@@ -118,11 +130,18 @@ in_numbers w =
 -- What a walk over these bytes answers: "0 if none, kept after a refusal".
 abbrev pub walk_answer : List ℕ → Walk → Walking
 walk_answer bytes w =
-    in_numbers (record { taken = w.taken; stop = w.stop; read = w.read; lost = last_lost 0 w.taken bytes; session = w.session })
+    record {
+      taken = w.taken;
+      stop = stop_number w.stop;
+      refusal = stop_refusal w.stop;
+      read = w.read;
+      lost = last_lost 0 w.taken bytes;
+      session = w.session;
+    }
 
 -- A record that refusal 10 names is refused, whatever the budget.
 unfoldable pub walk_of : Session → List ℕ → ℕ → Walking
-walk_of s bytes budget = walk_answer bytes (cond (out_of_range s) (stopped s (Refused 10) 0) (walk_on (budget_of budget) s bytes))
+walk_of s bytes budget = walk_answer bytes (cond (out_of_range s) (stopped s (Stopping.refused 10) 0) (walk_on (budget_of budget) s bytes))
 
 -- "the rest, which starts at the record that was not taken, or behind the end": behind the bytes that the walk read. More than
 -- there are, which no walk of these bytes reads, leaves the whole slice.

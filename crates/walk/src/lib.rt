@@ -1,20 +1,17 @@
 // The walk: records of a trace, one after the other, on a session.
 #![tactic(auto)]
 
-ghost use Rattle.std.specs.Prelude.{◌≡◌, cond, length};
+ghost use Rattle.std.specs.Prelude.{◌≡◌, length};
 ghost use Rattle.fields.specs.Rest.{Rest};
-ghost use Rattle.table.specs.Table.{IsTable};
-ghost use Rattle.session_record.specs.Lent.{memory, Ready};
-ghost use Rattle.walk.specs.Walk.{in_numbers, walk_of, budget_of, rest_start};
-ghost use Rattle.walk.specs.declared.Did.TheVariants.{Took};
-ghost use Rattle.walk.specs.Lent.{turn_of, HasGone};
+ghost use Rattle.session_record.specs.Loan.{memory_in};
+ghost use Rattle.walk.specs.Walk.{in_numbers, stop_in, walk_of, rest_start};
+ghost use Rattle.walk.specs.Lent.{HasGone};
 
-use held::Status;
-use property::Property;
-use record_form::{RECORD_SIZE, RecordRead};
-use rows::Words;
-use session_record::Session;
-use table::Table;
+use one_record::Did;
+use outcomes::Refusal;
+use record_form::{RECORD_SIZE, Record};
+use session_record::{Lent, Session, made, rows_of, unfit};
+use table::Steps;
 
 // "a budget of 0 to 4,096 records (more counts as 4,096)"
 const MOST_RECORDS: usize = 4096;
@@ -26,8 +23,8 @@ pub enum Stop {
     Budget,
     // At an end record.
     End,
-    // At a refusal, with its number.
-    Refused(u64),
+    // At a refusal.
+    Refused(Refusal),
 }
 
 // What a walk gives back.
@@ -43,170 +40,83 @@ pub struct Walked {
     pub session: Session,
 }
 
-// What one record did.
-#[derive(Clone, Copy)]
-pub enum Did {
-    Took,
-    Ended,
-    Not(u64),
-}
-
-// What one record did, with the last gap's number of lost lines behind it if it was taken.
-#[derive(Clone, Copy)]
-pub struct Turn {
-    pub did: Did,
-    pub lost: u8,
-}
-
-// A walk on lent rows: what it did, and what stands beside the rows after it.
+// A walk on lent rows: what it did.
 #[derive(Clone, Copy)]
 pub struct Went {
     pub taken: usize,
     pub stop: Stop,
     pub read: usize,
     pub lost: u8,
-    pub status: Status,
-}
-
-// A record was taken. `number` is its number of lost lines if it is a gap, and `before` the last gap's so far.
-fn took(gap: bool, number: u8, before: u8) -> Turn
-    ensures { result ≡ record { did = Took; lost = cond gap number before } }
-{
-    if gap {
-        return Turn {
-            did: Did::Took,
-            lost: number,
-        };
-    }
-    Turn {
-        did: Did::Took,
-        lost: before,
-    }
-}
-
-// What a record did, as it was read, with the number of the session's refusal or 0; `lost` is the last gap's number so far.
-fn done(refusal: u64, lost: u8, read: RecordRead) -> Turn
-    ensures { result ≡ turn_of refusal lost read }
-{
-    if refusal != 0 {
-        return Turn {
-            did: Did::Not(refusal),
-            lost: lost,
-        };
-    }
-    match read {
-        RecordRead::Input(_, _) => took(false, 0, lost),
-        RecordRead::Output(_, _) => took(false, 0, lost),
-        RecordRead::Gap(number, _) => took(true, number, lost),
-        RecordRead::End(_) => Turn {
-            did: Did::Ended,
-            lost: lost,
-        },
-        RecordRead::Refused(number) => Turn {
-            did: Did::Not(number),
-            lost: lost,
-        },
-    }
-}
-
-fn gone(taken: usize, stop: Stop, read: usize, lost: u8, status: Status) -> Went
-    ensures { result ≡ record { taken = taken; stop = stop; read = read; lost = lost; status = status } }
-{
-    Went {
-        taken: taken,
-        stop: stop,
-        read: read,
-        lost: lost,
-        status: status,
-    }
 }
 
 // A walk on lent rows, with any budget.
-pub fn records(
-    p: Property,
-    table: &Table,
-    rows: &mut [Words],
-    status: Status,
-    trace: &[u8],
-    budget: usize,
-) -> Went
-    requires { Ready (memory p rows.old status) × IsTable p table.now }
-    ensures { HasGone budget (memory p rows.old status) trace.now result.taken result.stop result.read result.lost
-        (memory p rows.new result.status) }
+pub fn records(lent: &mut Lent<'_>, trace: &[u8], budget: usize) -> Went
+    ensures { HasGone budget (memory_in lent.old) trace.now result.taken (stop_in result.stop) result.read result.lost (memory_in lent.new) }
 {
-    let mut taken = 0;
     let mut at = 0;
-    let mut here = status;
     let mut lost = 0;
-    while taken < budget {
-        let clock = here.clock;
-        let read = record_form::read_record(&trace[at..], clock.latest);
-        let told = one_record::take(p, table, rows, here, read);
-        let answer = told.answer;
-        let next = told.status;
-        let t = done(answer.refusal, lost, read);
-        let did = t.did;
-        match did {
-            Did::Took => {
-                here = next;
-                lost = t.lost;
+    for taken in 0..budget {
+        let read = record_form::read_record(&trace[at..], lent.status.clock.latest);
+        match one_record::take(lent, read) {
+            Ok(Did::Took(_)) => {
                 at += RECORD_SIZE;
-                taken += 1;
+                if let Ok(Record::Gap(number, _)) = read {
+                    lost = number;
+                }
             }
-            Did::Ended => {
-                return gone(taken, Stop::End, at + RECORD_SIZE, lost, next);
+            Ok(Did::Ended) => {
+                return Went {
+                    taken,
+                    stop: Stop::End,
+                    read: at + RECORD_SIZE,
+                    lost,
+                };
             }
-            Did::Not(number) => {
-                return gone(taken, Stop::Refused(number), at, lost, next);
+            Err(refusal) => {
+                return Went {
+                    taken,
+                    stop: Stop::Refused(refusal),
+                    read: at,
+                    lost,
+                };
             }
         }
     }
-    gone(taken, Stop::Budget, at, lost, here)
-}
-
-fn limited(budget: usize) -> usize
-    ensures { result ≡ budget_of budget }
-{
-    if MOST_RECORDS < budget {
-        return MOST_RECORDS;
+    Went {
+        taken: budget,
+        stop: Stop::Budget,
+        read: at,
+        lost,
     }
-    budget
 }
 
 // Takes records from the front of `trace`, as many as `budget` says or 4,096.
 pub fn walk(s: Session, trace: &[u8], budget: usize) -> Walked
     ensures { in_numbers result ≡ walk_of s trace.now budget }
 {
-    if session_record::unfit(s) {
+    if unfit(s) {
         return Walked {
             taken: 0,
-            stop: Stop::Refused(10),
+            stop: Stop::Refused(Refusal::OutOfRange),
             read: 0,
             lost: 0,
             session: s,
         };
     }
-    let p = s.property;
-    let shared = s.shared;
-    let table = table::table(p);
-    let mut rows = session_record::rows_of(s);
-    let r = records(p, &table, &mut rows, shared.status, trace, limited(budget));
-    let stop = r.stop;
-    if r.taken == 0 {
-        return Walked {
-            taken: 0,
-            stop: stop,
-            read: r.read,
-            lost: 0,
-            session: s,
-        };
-    }
+    let steps = Steps::new(s.property);
+    let mut rows = rows_of(s);
+    let mut lent = Lent {
+        steps: &steps,
+        rows: &mut rows,
+        status: s.shared.status,
+    };
+    let went = records(&mut lent, trace, budget.min(MOST_RECORDS));
     Walked {
-        taken: r.taken,
-        stop: stop,
-        read: r.read,
-        lost: r.lost,
-        session: session_record::made(p, &rows, r.status),
+        taken: went.taken,
+        stop: went.stop,
+        read: went.read,
+        lost: went.lost,
+        session: if went.taken == 0 { s } else { made(&lent) },
     }
 }
 

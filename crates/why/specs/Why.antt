@@ -9,7 +9,7 @@ use Rattle.reasons.specs.Reasons.{most_lines, Earliest, FirstExplanation, Any, R
 use Rattle.property.specs.Meant.{meant}
 use Rattle.property.specs.declared.Property.{Property}
 use Rattle.first_order.specs.Search.{Pair}
-use Rattle.judged_rest.specs.declared.Reason.{Reason}
+use Rattle.judged_rest.specs.Judged.{Reasoning}
 use Rattle.judged_rest.specs.Lent.{Lines, count, run_of}
 
 -- "13, more than 256 lines in the run; 9, any list shorter than the run; 13 before 9, both last."
@@ -50,7 +50,7 @@ ShowsBy Verdict.certain p run l l2 m m2 = Shows p run (Breaks p) l m × (m2 ≡ 
 ShowsBy Verdict.blind p run l l2 m m2 = ⊥
 
 -- The verdict, the line after which it "first reached its final level", and the orders.
-pub record TellsWhy (p : Words.Property) (run : Run) (r : Reason) (l l2 m m2 : Pair) : Type 0 where
+pub record TellsWhy (p : Words.Property) (run : Run) (r : Reasoning) (l l2 m m2 : Pair) : Type 0 where
   pub taken : r.refusal ≡ 0
   pub verdict : Verdict
   pub exact : IsVerdict p run verdict
@@ -59,15 +59,15 @@ pub record TellsWhy (p : Words.Property) (run : Run) (r : Reason) (l l2 m m2 : P
   pub orders : ShowsBy verdict p run l l2 m m2
 
 -- Refused: the number alone, and no list is altered.
-pub record Refused (n : ℕ) (r : Reason) (l l2 m m2 : Pair) : Type 0 where
+pub record Refused (n : ℕ) (r : Reasoning) (l l2 m m2 : Pair) : Type 0 where
   pub alone : r ≡ record { refusal = n; verdict = 0; line = 0 }
   pub kept : m ≡ l
   pub kept2 : m2 ≡ l2
 
-abbrev pub ReasonBy : ℕ → Words.Property → Run → Reason → Pair → Pair → Pair → Pair → Type 0
+abbrev pub ReasonBy : ℕ → Words.Property → Run → Reasoning → Pair → Pair → Pair → Pair → Type 0
 ReasonBy zero p run r l l2 m m2 = TellsWhy p run r l l2 m m2
 ReasonBy (suc n) p run r l l2 m m2 = Refused (suc n) r l l2 m m2
 
 -- What the call answers and leaves: l and l2 are the pairs as they were lent, m and m2 as they are afterwards.
-unfoldable pub IsReason : Property → Lines → Reason → Pair → Pair → Pair → Pair → Type 0
+unfoldable pub IsReason : Property → Lines → Reasoning → Pair → Pair → Pair → Pair → Type 0
 IsReason p ls r l l2 m m2 = ReasonBy (why_refusal p ls l l2) (meant p) (run_of ls) r l l2 m m2

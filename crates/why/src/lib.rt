@@ -2,13 +2,16 @@
 // three lists: for each line whether it is an output, its action's number, its stamp.
 #![tactic(auto)]
 
+ghost use Rattle.judged_rest.specs.Judged.{reason_in};
 ghost use Rattle.judged_rest.specs.Lent.{lent};
 ghost use Rattle.first_order.specs.Search.{pair};
 ghost use Rattle.why.specs.Why.{IsReason};
 
 use judged_rest::{Reached, Reason};
 use limits::MOST_LINES;
+use outcomes::{Refusal, Verdict};
 use property::Property;
+use table::Steps;
 
 // The orders of a run: for clear the first explanation in the first two lists, for suspect the first that breaks there and the first
 // that does not in the other two, for certain the first that breaks.
@@ -21,59 +24,33 @@ pub fn explain(
     moments: &mut [i64],
     numbers2: &mut [u64],
     moments2: &mut [i64],
-) -> Reason
-    ensures { IsReason p (lent output.now action.now stamp.now) result
+) -> Result<Reason, Refusal>
+    ensures { IsReason p (lent output.now action.now stamp.now) (reason_in result)
         (pair numbers.old moments.old) (pair numbers2.old moments2.old)
         (pair numbers.new moments.new) (pair numbers2.new moments2.new) }
 {
-    let number = property::refused(p);
-    if number != 0 {
-        return judged_rest::refused(number);
-    }
+    property::refused(p)?;
     let n = stamp.len();
-    if output.len() != n {
-        return judged_rest::refused(7);
+    if output.len() != n || action.len() != n {
+        return Err(Refusal::TooShort);
     }
-    if action.len() != n {
-        return judged_rest::refused(7);
-    }
-    let table = table::table(p);
+    let steps = Steps::new(p);
     let start = Reached {
         input: 0,
         output: 0,
         cut: matcher::start(),
     };
-    let r = judged_rest::judge(p, &table, output, action, stamp, start);
-    if r.refusal != 0 {
-        return r;
-    }
+    let reason = judged_rest::judge(&steps, output, action, stamp, start)?;
     if MOST_LINES < n {
-        return judged_rest::refused(13);
+        return Err(Refusal::TooManyLines);
     }
-    if numbers.len() < n {
-        return judged_rest::refused(9);
+    if numbers.len() < n || moments.len() < n || numbers2.len() < n || moments2.len() < n {
+        return Err(Refusal::NoRoom);
     }
-    if moments.len() < n {
-        return judged_rest::refused(9);
+    let breaking = reason.verdict != Verdict::Clear;
+    first_order::write(&steps, output, action, stamp, breaking, numbers, moments);
+    if reason.verdict == Verdict::Suspect {
+        first_order::write(&steps, output, action, stamp, false, numbers2, moments2);
     }
-    if numbers2.len() < n {
-        return judged_rest::refused(9);
-    }
-    if moments2.len() < n {
-        return judged_rest::refused(9);
-    }
-    first_order::write(
-        p,
-        &table,
-        output,
-        action,
-        stamp,
-        0 < r.verdict,
-        numbers,
-        moments,
-    );
-    if r.verdict == 1 {
-        first_order::write(p, &table, output, action, stamp, false, numbers2, moments2);
-    }
-    r
+    Ok(reason)
 }
