@@ -31,9 +31,9 @@ ended behind w = cond behind (refused 8) (record { refusal = 0; verdict = standi
 
 -- By how the walk over the trace stopped; "a stretch that stops without an end record" is refusal 7.
 unfoldable pub by_stop : Stopping → Bool → Walk → Judging
-by_stop Stopping.budget behind w = refused 7
-by_stop Stopping.end behind w = ended behind w
-by_stop (Stopping.refused n) behind w = refused n
+by_stop Stopping.at_budget behind w = refused 7
+by_stop Stopping.at_end behind w = ended behind w
+by_stop (Stopping.at_refusal n) behind w = refused n
 
 -- A fresh session walks over the whole trace: each record takes some of its bytes, so their number is budget enough.
 abbrev pub walked : Property → List ℕ → Walk

@@ -14,26 +14,26 @@ use Rattle.walk.specs.declared.Walked.{Walked}
 
 -- How a walk stops: the budget is used up, at an end record, or at a refusal with its number.
 pub data Stopping : Type 0 where
-  budget : Stopping
-  end : Stopping
-  refused : ℕ → Stopping
+  at_budget : Stopping
+  at_end : Stopping
+  at_refusal : ℕ → Stopping
 
 abbrev pub stop_in : Stop → Stopping
-stop_in Budget = Stopping.budget
-stop_in End = Stopping.end
-stop_in (Refused refusal) = Stopping.refused (refusal_number refusal)
+stop_in Budget = Stopping.at_budget
+stop_in End = Stopping.at_end
+stop_in (Refused refusal) = Stopping.at_refusal (refusal_number refusal)
 
 -- Document 01 numbers no way to stop; these are ours: 0 the budget is used up, 1 an end record, 2 a refusal.
 abbrev pub stop_number : Stopping → ℕ
-stop_number Stopping.budget = 0
-stop_number Stopping.end = 1
-stop_number (Stopping.refused n) = 2
+stop_number Stopping.at_budget = 0
+stop_number Stopping.at_end = 1
+stop_number (Stopping.at_refusal n) = 2
 
 -- "the refusal if any"
 abbrev pub stop_refusal : Stopping → ℕ
-stop_refusal Stopping.budget = 0
-stop_refusal Stopping.end = 0
-stop_refusal (Stopping.refused n) = n
+stop_refusal Stopping.at_budget = 0
+stop_refusal Stopping.at_end = 0
+stop_refusal (Stopping.at_refusal n) = n
 
 -- What one record does to a session: it ends the trace, is refused, or is taken as a call, with the session after it.
 pub data One : Type 0 where
@@ -75,14 +75,14 @@ one_more w = record { taken = suc w.taken; stop = w.stop; read = record_size + w
 
 -- What a record leads to; `more` is the walk over the bytes behind it. What is refused leaves the session as it was.
 unfoldable pub walked_by : One → Session → (Session → Walk) → Walk
-walked_by One.ended s more = stopped s Stopping.end record_size
-walked_by (One.refused n) s more = stopped s (Stopping.refused n) 0
+walked_by One.ended s more = stopped s Stopping.at_end record_size
+walked_by (One.refused n) s more = stopped s (Stopping.at_refusal n) 0
 walked_by (One.took c after) s more = one_more (more after)
 
 -- "the walk stops when the given number of records has been taken, or at an end record, or at a refusal, whichever is first.
 -- With budget 0 left nothing more is read."
 unfoldable pub walk_on : ℕ → Session → List ℕ → Walk
-walk_on zero s bytes = stopped s Stopping.budget 0
+walk_on zero s bytes = stopped s Stopping.at_budget 0
 walk_on (suc budget) s bytes = walked_by (one_of s bytes) s (λ after. walk_on budget after (drop record_size bytes))
 
 -- "a budget of 0 to 4,096 records (more counts as 4,096)"
@@ -141,7 +141,7 @@ walk_answer bytes w =
 
 -- A record that refusal 10 names is refused, whatever the budget.
 unfoldable pub walk_of : Session → List ℕ → ℕ → Walking
-walk_of s bytes budget = walk_answer bytes (cond (out_of_range s) (stopped s (Stopping.refused 10) 0) (walk_on (budget_of budget) s bytes))
+walk_of s bytes budget = walk_answer bytes (cond (out_of_range s) (stopped s (Stopping.at_refusal 10) 0) (walk_on (budget_of budget) s bytes))
 
 -- "the rest, which starts at the record that was not taken, or behind the end": behind the bytes that the walk read. More than
 -- there are, which no walk of these bytes reads, leaves the whole slice.
