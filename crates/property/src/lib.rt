@@ -40,35 +40,18 @@ fn above(p: Property) -> bool
     requires { p.n ≤ 32 }
     ensures { result ≡ any_action_above (sequence_of p) }
 {
-    let number = p.number;
-    let n = p.n;
-    let mut i = 0;
-    while i < n {
-        if LAST_ACTION < number[i] {
-            return true;
-        }
-        i += 1;
-    }
-    false
+    p.number[..p.n].iter().any(|&k| LAST_ACTION < k)
 }
 
 // Refusal 1, 2 or 3 of a property, the first that holds, else 0.
+#[tactic(auto, using(crate::proofs::Refusal::refusal_is, std::proofs::lemmas::Bool::Decides::nat_tests))]
 pub fn refused(p: Property) -> u64
     ensures { result ≡ property_refusal (meant p) }
 {
-    if p.n < 1 {
+    if p.n < 1 || MOST_ACTIONS < p.n {
         return 1;
     }
-    if MOST_ACTIONS < p.n {
-        return 1;
-    }
-    if p.lb < 1 {
-        return 2;
-    }
-    if p.ub < p.lb {
-        return 2;
-    }
-    if LAST_BOUND < p.ub {
+    if p.lb < 1 || p.ub < p.lb || LAST_BOUND < p.ub {
         return 2;
     }
     if above(p) { 3 } else { 0 }
