@@ -73,16 +73,14 @@ fn taken_by(s: &[u8]) -> usize
     if r.refusal != 0 {
         return 0;
     }
-    let n = read::length_of(s);
-    read::size_of(n)
+    read::size_of(read::length_of(s))
 }
 
 // The bytes behind the packed property that the reader takes; all of them where it refuses.
 pub fn property_rest(s: &[u8]) -> &[u8]
     ensures { Rest (taken s.now) s.entry result }
 {
-    let k = taken_by(s);
-    &s[k..]
+    &s[taken_by(s)..]
 }
 
 // Writes a packed property to the front of the buffer.
@@ -93,15 +91,13 @@ pub fn write_property(p: property::Property, buf: &mut [u8]) -> Written
     if refusal != 0 {
         return Written { refusal, size: 0 };
     }
-    let n = p.n;
-    let size = read::size_of(n);
+    let size = read::size_of(p.n);
     if buf.len() < size {
         return Written {
             refusal: 9,
             size: 0,
         };
     }
-    let list = write::bits_of(p);
-    fields::pack(&list, size, buf);
+    fields::pack(&write::bits_of(p), size, buf);
     Written { refusal: 0, size }
 }
