@@ -30,7 +30,7 @@ pub fn form_bytes(n: usize) -> usize
     requires { n < 64 }
     ensures { result ≡ form_size n }
 {
-    read::size_of(n)
+    (122 + 7 * n).div_ceil(8)
 }
 
 // Takes one packed property from the front of the bytes.
@@ -73,7 +73,7 @@ fn taken_by(s: &[u8]) -> usize
     if r.refusal != 0 {
         return 0;
     }
-    read::size_of(read::length_of(s))
+    form_bytes(read::length_of(s))
 }
 
 // The bytes behind the packed property that the reader takes; all of them where it refuses.
@@ -91,7 +91,7 @@ pub fn write_property(p: property::Property, buf: &mut [u8]) -> Written
     if refusal != 0 {
         return Written { refusal, size: 0 };
     }
-    let size = read::size_of(p.n);
+    let size = form_bytes(p.n);
     if buf.len() < size {
         return Written {
             refusal: 9,

@@ -5,12 +5,7 @@ ghost use Rattle.fields.specs.Fields.{bit};
 ghost use Rattle.property_form.specs.Form.{form_bits, form_size};
 ghost use Rattle.property_form.specs.Read.{length_read, places, output_read, number_read, mask, property_read, too_short, pad_broken};
 
-pub fn size_of(n: usize) -> usize
-    requires { n < 64 }
-    ensures { result ≡ form_size n }
-{
-    (122 + 7 * n + 7) / 8
-}
+use crate::form_bytes;
 
 // The length field.
 pub fn length_of(s: &[u8]) -> usize
@@ -28,7 +23,7 @@ pub fn broken(s: &[u8]) -> u64
         return 7;
     }
     let n = length_of(s);
-    let size = size_of(n);
+    let size = form_bytes(n);
     if s.len() < size {
         return 7;
     }

@@ -32,6 +32,6 @@ returns c =
     c.args.s.now in
     let unrefused : read_refusal S ≡ 0 =
     sym refusal_is ∙ c.if-r-ne0.false in
-    c.size_of.ensures
+    c.form_bytes.ensures
     ∙ ap form_size c.length_of.ensures.0
     ∙ sym (taken-all _ unrefused)

@@ -49,8 +49,8 @@ returns-then-refusal-ne0 c =
       left-refused q buf (λ e. h (sym (write_first q buf h) ∙ e)),
     )
 
-pub size_of-size-requires : goal.size_of-size-requires
-size_of-size-requires c =
+pub form_bytes-size-requires : goal.form_bytes-size-requires
+form_bytes-size-requires c =
     let P : Property =
     c.args.p in
     let unrefused : property_refusal (meant P) ≡ 0 =
@@ -87,7 +87,7 @@ pack-requires c =
     let p = P in
     let l = c.bits_of in
     let t = taken_bounds p unrefused in (
-      omega (arith, length_list p l.result l.ensures t.most, c.size_of-size.ensures, t.most),
+      omega (arith, length_list p l.result l.ensures t.most, c.form_bytes-size.ensures, t.most),
       omega (arith, c.if-buf-size.false),
       list_bits p l.result l.ensures,
     )
@@ -102,7 +102,7 @@ returns c =
     sym c.refused-refusal.ensures ∙ c.if-refusal-ne0.false in
     let p = P in
     let buf = B in
-    let k = c.size_of-size in
+    let k = c.form_bytes-size in
     let fits = write_fits (meant p) buf unrefused (omega (arith, length_of_form p, k.ensures, c.if-buf-size.false)) in (
       written-taken (meant p) buf k.result fits (k.ensures ∙ sym (length_of_form p)),
       c.pack.ensures

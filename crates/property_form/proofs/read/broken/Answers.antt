@@ -39,7 +39,7 @@ returns-then-field_at-eq0 c =
     let S : List ℕ =
     c.args.s.now in
     let is-pad : c.field_at.result ≡ pad_read S =
-    pad S _ _ _ c.length_of-n.ensures.0 c.size_of-size.ensures c.field_at.ensures in
+    pad S _ _ _ c.length_of-n.ensures.0 c.form_bytes-size.ensures c.field_at.ensures in
     let s = S in
     judged s false false (le-ltb (length s) (form_size (length_read s)) (omega arith))
     (ap not (eq-eqb (pad_read s) 0 (sym is-pad ∙ c.if-field_at-eq0.true)))
@@ -49,7 +49,7 @@ returns-else-field_at-eq0 c =
     let S : List ℕ =
     c.args.s.now in
     let is-pad : c.field_at.result ≡ pad_read S =
-    pad S _ _ _ c.length_of-n.ensures.0 c.size_of-size.ensures c.field_at.ensures in
+    pad S _ _ _ c.length_of-n.ensures.0 c.form_bytes-size.ensures c.field_at.ensures in
     let s = S in
     judged s false true (le-ltb (length s) (form_size (length_read s)) (omega arith))
     (ap not (ne_eqb (pad_read s) 0 (λ e. c.if-field_at-eq0.false (is-pad ∙ e))))
