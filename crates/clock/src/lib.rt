@@ -45,6 +45,7 @@ pub fn refused(clock: Clock, stamp: u64) -> Result<(), Refusal>
 }
 
 // "T exceeds the latest stamp by more than 2·UB"
+#[tactic(auto, using(property::proofs::Refusal::taken_bounds))]
 pub fn beyond(p: Property, clock: Clock, stamp: u64) -> bool
     requires { (property_refusal (meant p) ≡ 0) × (clock.latest ≤ last_stamp) }
     ensures { result ≡ Calls.beyond (meant p) (clock_of clock) stamp }
@@ -58,7 +59,7 @@ pub fn ticked(clock: Clock, stamp: u64, blind: bool) -> Clock
 {
     Clock {
         latest: stamp,
-        blind: blind,
+        blind,
     }
 }
 

@@ -31,15 +31,9 @@ pub fn closed_count(ub: u64, rows: &[Words], span: Span, stamp: u64) -> usize
     ensures { Closes ub rows.now span stamp result }
 {
     let wide = 2 * ub;
-    let count = span.count;
-    let mut i = 0;
-    while i < count {
-        if stamp <= rows::word(rows, span, 0, i) + wide {
-            return i;
-        }
-        i += 1;
-    }
-    i
+    (0..span.count)
+        .find(|&i| stamp <= rows::word(rows, span, 0, i) + wide)
+        .unwrap_or(span.count)
 }
 
 // A new input comes last.
@@ -47,9 +41,8 @@ pub fn append(rows: &mut [Words], span: Span, action: u64, stamp: u64)
     requires { Room rows.old span }
     ensures { rows.new ≡ with_input rows.old span action stamp }
 {
-    let count = span.count;
-    rows::put(rows, span, 0, count, stamp);
-    rows::put(rows, span, 1, count, action);
+    rows::put(rows, span, 0, span.count, stamp);
+    rows::put(rows, span, 1, span.count, action);
 }
 
 // The stamp that a held one may not be above.
@@ -57,11 +50,11 @@ fn next_stamp(rows: &[Words], span: Span, i: usize, latest: u64) -> u64
     requires { Room rows.now span × (i < span.count) }
     ensures { result ≡ cond (ltb (suc i) span.count) (word rows.now span 0 (suc i)) latest }
 {
-    let j = i + 1;
-    if j < span.count {
-        return rows::word(rows, span, 0, j);
+    if i + 1 < span.count {
+        rows::word(rows, span, 0, i + 1)
+    } else {
+        latest
     }
-    latest
 }
 
 // Held stamps out of order or past the latest.
@@ -69,13 +62,5 @@ pub fn falls(rows: &[Words], span: Span, latest: u64) -> bool
     requires { Room rows.now span }
     ensures { result ≡ stamps_fall rows.now span latest }
 {
-    let count = span.count;
-    let mut i = 0;
-    while i < count {
-        if next_stamp(rows, span, i, latest) < rows::word(rows, span, 0, i) {
-            return true;
-        }
-        i += 1;
-    }
-    false
+    (0..span.count).any(|i| next_stamp(rows, span, i, latest) < rows::word(rows, span, 0, i))
 }

@@ -50,19 +50,11 @@ fn above(p: Property) -> bool
     requires { p.n ≤ 32 }
     ensures { result ≡ any_action_above (sequence_of p) }
 {
-    let number = p.number;
-    let n = p.n;
-    let mut i = 0;
-    while i < n {
-        if LAST_ACTION < number[i] {
-            return true;
-        }
-        i += 1;
-    }
-    false
+    p.number[..p.n].iter().any(|&k| LAST_ACTION < k)
 }
 
 // Refusal 1, 2 or 3 of a property, the first that holds.
+#[tactic(auto, using(crate::proofs::Refusal::refusal_is, std::proofs::lemmas::Bool::Decides::nat_tests))]
 pub fn refused(p: Property) -> Result<(), Refusal>
     ensures { refusal_in result ≡ property_refusal (meant p) }
 {

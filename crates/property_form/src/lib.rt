@@ -20,7 +20,7 @@ pub fn form_bytes(n: usize) -> usize
     requires { n < 64 }
     ensures { result ≡ form_size n }
 {
-    read::size_of(n)
+    (122 + 7 * n).div_ceil(8)
 }
 
 // Takes one packed property from the front of the bytes.
@@ -42,7 +42,7 @@ fn taken_by(s: &[u8]) -> usize
     ensures { result ≡ taken s.now }
 {
     match read_property(s) {
-        Ok(p) => read::size_of(p.n),
+        Ok(p) => form_bytes(p.n),
         Err(_) => 0,
     }
 }
@@ -51,8 +51,7 @@ fn taken_by(s: &[u8]) -> usize
 pub fn property_rest(s: &[u8]) -> &[u8]
     ensures { Rest (taken s.now) s.entry result }
 {
-    let k = taken_by(s);
-    &s[k..]
+    &s[taken_by(s)..]
 }
 
 // Writes a packed property to the front of the buffer, and gives the number of bytes written.
@@ -60,11 +59,10 @@ pub fn write_property(p: Property, buf: &mut [u8]) -> Result<usize, Refusal>
     ensures { (written_numbers result ≡ written (meant p) buf.old) × (buf.new ≡ left (meant p) buf.old) }
 {
     property::refused(p)?;
-    let size = read::size_of(p.n);
+    let size = form_bytes(p.n);
     if buf.len() < size {
         return Err(Refusal::NoRoom);
     }
-    let list = write::bits_of(p);
-    fields::pack(&list, size, buf);
+    fields::pack(&write::bits_of(p), size, buf);
     Ok(size)
 }

@@ -6,14 +6,8 @@ ghost use Rattle.fields.specs.Fields.{bit};
 ghost use Rattle.property_form.specs.Form.{form_bits, form_size};
 ghost use Rattle.property_form.specs.Read.{length_read, places, output_read, number_read, mask, property_read, too_short, pad_broken};
 
+use crate::form_bytes;
 use outcomes::Refusal;
-
-pub fn size_of(n: usize) -> usize
-    requires { n < 64 }
-    ensures { result ≡ form_size n }
-{
-    (122 + 7 * n + 7) / 8
-}
 
 // The length field.
 pub fn length_of(s: &[u8]) -> usize
@@ -27,11 +21,11 @@ pub fn length_of(s: &[u8]) -> usize
 pub fn whole(s: &[u8]) -> Result<(), Refusal>
     ensures { refusal_in result ≡ first_of (given 7 (too_short s.now)) (given 8 (pad_broken s.now)) }
 {
-    if s.len() < 1 {
+    if s.is_empty() {
         return Err(Refusal::TooShort);
     }
     let n = length_of(s);
-    let size = size_of(n);
+    let size = form_bytes(n);
     if s.len() < size {
         return Err(Refusal::TooShort);
     }
@@ -48,19 +42,10 @@ fn outputs(s: &[u8], n: usize) -> [bool; 32]
     ensures { result ≡ places (output_read s.now) n false }
 {
     let mut output = [false; 32];
-    let mut i = 0;
-    while i < n {
+    for i in 0..n {
         output[i] = fields::field_at(s, 58 + 7 * i, 1) == 1;
-        i += 1;
     }
     output
-}
-
-fn narrow(v: u64) -> u8
-    requires { v < 64 }
-    ensures { result ≡ v }
-{
-    v as u8
 }
 
 // The actions' numbers.
@@ -68,11 +53,9 @@ fn numbers(s: &[u8], n: usize) -> [u8; 32]
     requires { (n ≤ 32) × (58 + 7 * n ≤ 8 * length s.now) }
     ensures { result ≡ places (number_read s.now) n 0 }
 {
-    let mut number = [0u8; 32];
-    let mut i = 0;
-    while i < n {
-        number[i] = narrow(fields::field_at(s, 59 + 7 * i, 6));
-        i += 1;
+    let mut number = [0; 32];
+    for i in 0..n {
+        number[i] = fields::field_at(s, 59 + 7 * i, 6) as u8;
     }
     number
 }
@@ -82,11 +65,9 @@ fn allowed(s: &[u8], start: usize) -> u64
     requires { (start + 64 ≤ 8 * length s.now) × (start < 1000) }
     ensures { result ≡ mask (bit s.now) start 64 }
 {
-    let mut m: u64 = 0;
-    let mut k: usize = 0;
-    while k < 64 {
+    let mut m = 0;
+    for k in 0..64 {
         m += fields::field_at(s, start + k, 1) << k;
-        k += 1;
     }
     m
 }
@@ -96,12 +77,10 @@ pub fn fields_of(s: &[u8], n: usize) -> property::Property
     requires { (n ≡ length_read s.now) × (n ≤ 32) × (form_bits n ≤ 8 * length s.now) }
     ensures { result ≡ property_read s.now }
 {
-    let output = outputs(s, n);
-    let number = numbers(s, n);
     property::Property {
         n,
-        output,
-        number,
+        output: outputs(s, n),
+        number: numbers(s, n),
         allowed: allowed(s, 58 + 7 * n),
         lb: fields::field_at(s, 6, 26),
         ub: fields::field_at(s, 32, 26),

@@ -24,36 +24,33 @@ pub struct Span {
 pub fn spanning(count: usize) -> Span
     ensures { result ≡ Rows.spanning count }
 {
-    Span {
-        start: 0,
-        count: count,
-    }
+    Span { start: 0, count }
 }
 
 // Where index i stands: behind the last place comes the first.
+#[tactic(auto, unfolding(crate::specs::Rows::place))]
 fn place(span: Span, i: usize) -> usize
     requires { (span.start ≤ last_place) × (i ≤ last_place) }
     ensures { (result ≡ Rows.place span i) × (result ≤ last_place) }
 {
     let p = span.start + i;
-    if p <= LAST_PLACE {
-        return p;
-    }
-    p - 65
+    if p <= LAST_PLACE { p } else { p - 65 }
 }
 
 // One open input more, behind the others.
+#[tactic(auto, unfolding(crate::specs::Rows::longer))]
 pub fn longer(span: Span) -> Span
     requires { span.count < last_place }
     ensures { result ≡ Rows.longer span }
 {
     Span {
-        start: span.start,
         count: span.count + 1,
+        ..span
     }
 }
 
 // The first d open inputs and the cuts before them give their places up: nothing is moved.
+#[tactic(auto, unfolding(crate::specs::Rows::shorter))]
 pub fn shorter(span: Span, d: usize) -> Span
     requires { Within span × (d ≤ span.count) }
     ensures { result ≡ Rows.shorter span d }
@@ -65,19 +62,19 @@ pub fn shorter(span: Span, d: usize) -> Span
 }
 
 // The word at index i of row k.
+#[tactic(auto, unfolding(crate::specs::Rows::word))]
 pub fn word(rows: &[Words], span: Span, k: usize, i: usize) -> u64
     requires { Room rows.now span × (k < length rows.now) × (i ≤ last_place) }
     ensures { result ≡ Rows.word rows.now span k i }
 {
-    let p = place(span, i);
-    rows[k][p]
+    rows[k][place(span, i)]
 }
 
 // A word is stored there.
+#[tactic(auto, unfolding(crate::specs::Rows::with))]
 pub fn put(rows: &mut [Words], span: Span, k: usize, i: usize, v: u64)
     requires { Room rows.old span × (k < length rows.old) × (i ≤ last_place) }
     ensures { rows.new ≡ Rows.with rows.old span k i v }
 {
-    let p = place(span, i);
-    rows[k][p] = v;
+    rows[k][place(span, i)] = v;
 }

@@ -1,34 +1,26 @@
--- `held::falls` meets its contract. The loop's invariant: no stamp passed is above the next.
-use mathlib.Core.Path.{◌≡◌, sym, ap₂, ◌∙◌}
-use native.Mathlib.Nat.{not-suc-le-zero}
-use native.Mathlib.Omega.{arith}
-use borrow.Author.Count.{below_more}
-use borrow.Author.Tests.{lt-ltb, le-ltb}
-use lib.Dec.{ltb}
-use Rattle.laws.proofs.Below.{below_here, none_below}
-use borrow.Author.Rules.{rules}
-use Rattle.held.proofs.falls.Invariants.{above}
+-- `held::falls` meets its contract: the numbers below the count are asked one by one.
+use Rattle.std.proofs.Common.{◌≡◌, refl, ap, ◌∙◌, ℕ, zero, suc, ◌+◌, Bool, cond, List, [], ◌∷◌, ◌++◌, arith, rules, tests, ltb}
+use Rattle.std.specs.List.{range_with_len, list_any}
+use Rattle.std.proofs.lemmas.Iterator.{YieldsList-from_range}
+use Rattle.std.proofs.lemmas.Iterator.Search.{any_from_yields_List}
+use Rattle.std.proofs.lemmas.List.Folds.{list_any-append}
+use Rattle.laws.specs.Places.{some_below}
+use Rattle.rows.specs.Rows.{word}
 use Rattle.held.proofs.falls.Goals as goal
 
-pub loop-i-init : goal.loop-i-init
-loop-i-init c = (search rules, λ k h. absurd (not-suc-le-zero h))
+-- one number more
+range_snoc : (a n j : ℕ) → a + n ≡ j → range_with_len a (suc n) ≡ range_with_len a n ++ (j ∷ [])
+range_snoc a zero j e = ap (λ (k : ℕ). k ∷ []) (omega arith)
+range_snoc a (suc n) j e = ap (λ (l : List ℕ). a ∷ l) (range_snoc (a + 1) n j (omega arith))
 
-pub returns-then-next_stamp-word : goal.returns-then-next_stamp-word
-returns-then-next_stamp-word c =
-    let compared : above c.args.rows.now c.args.span c.args.latest c.loop-i.i ≡ ltb c.next_stamp.result c.word.result =
-    sym (ap₂ ltb c.next_stamp.ensures c.word.ensures) in
-    let a = c.args in
-    sym
-    (below_here a.span.count (above a.rows.now a.span a.latest) c.loop-i.i (omega arith)
-    (compared ∙ lt-ltb _ _ c.if-next_stamp-word.true))
-
-pub loop-i-preserved : goal.loop-i-preserved
-loop-i-preserved c =
-    let compared : above c.args.rows.now c.args.span c.args.latest c.loop-i.i ≡ ltb c.next_stamp.result c.word.result =
-    sym (ap₂ ltb c.next_stamp.ensures c.word.ensures) in
-    (search rules, below_more _ _ c.loop-i.invariant.1 (compared ∙ le-ltb _ _ c.if-next_stamp-word.false))
+found_below : (f : ℕ → Bool) (n : ℕ) → list_any f (range_with_len 0 n) ≡ some_below n f
+unfolding some_below
+found_below f zero = refl
+found_below f (suc n) = ap (list_any f) (range_snoc 0 n n (omega arith)) ∙ list_any-append f (range_with_len 0 n) (n ∷ []) ∙ rw (found_below f n) (grind arith)
 
 pub returns : goal.returns
 returns c =
     let a = c.args in
-    sym (none_below a.span.count (above a.rows.now a.span a.latest) (λ i h. c.loop-i.invariant.1 i (omega arith)))
+    any_from_yields_List (λ i. ltb (cond (ltb (suc i) a.span.count) (word a.rows.now a.span 0 (suc i)) a.latest) (word a.rows.now a.span 0 i)) _ _ c.any.result
+    c.any.ensures.ran (YieldsList-from_range 0 a.span.count a.span.count refl (omega arith)) (λ x b q k. search (rules, tests))
+    ∙ found_below _ a.span.count

@@ -6,10 +6,10 @@ use Rattle.property_form.proofs.Answers.{taken-le}
 use Rattle.property_form.proofs.property_rest.Goals as goal
 
 pub slice_bounds-result-start : goal.slice_bounds-result-start
-slice_bounds-result-start c = omega (arith, taken-le c.args.s.now, c.taken_by-k.ensures)
+slice_bounds-result-start c = omega (arith, taken-le c.args.s.now, c.taken_by.ensures)
 
 pub slice_bounds-result-count : goal.slice_bounds-result-count
-slice_bounds-result-count c = omega (arith, taken-le c.args.s.now, c.taken_by-k.ensures)
+slice_bounds-result-count c = omega (arith, taken-le c.args.s.now, c.taken_by.ensures)
 
 pub returns : goal.returns
-returns c = rest_part c.taken_by-k.result _ _ _ (sym c.taken_by-k.ensures) refl (omega arith) refl
+returns c = rest_part c.taken_by.result _ _ _ (sym c.taken_by.ensures) refl (omega arith) refl

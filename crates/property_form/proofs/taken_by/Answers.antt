@@ -14,8 +14,8 @@ returns-then-r-ne0 c =
     ap (λ r. r.refusal) c.read_property-r.ensures ∙ refusal-read c.args.s.now in
     taken_none _ (λ e. c.if-r-ne0.true (refusal_is ∙ e))
 
-pub length_of-n-requires : goal.length_of-n-requires
-length_of-n-requires c =
+pub length_of-requires : goal.length_of-requires
+length_of-requires c =
     let refusal_is : c.read_property-r.result.refusal ≡ read_refusal c.args.s.now =
     ap (λ r. r.refusal) c.read_property-r.ensures ∙ refusal-read c.args.s.now in
     let S : List ℕ =
@@ -32,6 +32,6 @@ returns c =
     c.args.s.now in
     let unrefused : read_refusal S ≡ 0 =
     sym refusal_is ∙ c.if-r-ne0.false in
-    c.size_of.ensures
-    ∙ ap form_size c.length_of-n.ensures.0
+    c.form_bytes.ensures
+    ∙ ap form_size c.length_of.ensures.0
     ∙ sym (taken-all _ unrefused)

@@ -49,8 +49,8 @@ returns-then-refusal-ne0 c =
       left-refused q buf (λ e. h (sym (write_first q buf h) ∙ e)),
     )
 
-pub size_of-size-requires : goal.size_of-size-requires
-size_of-size-requires c =
+pub form_bytes-size-requires : goal.form_bytes-size-requires
+form_bytes-size-requires c =
     let P : Property =
     c.args.p in
     let unrefused : property_refusal (meant P) ≡ 0 =
@@ -70,8 +70,8 @@ returns-then-buf-size c =
       left-refused (meant P) B (λ e. let z : ⊥ = omega arith in z),
     )
 
-pub bits_of-list-requires : goal.bits_of-list-requires
-bits_of-list-requires c =
+pub bits_of-requires : goal.bits_of-requires
+bits_of-requires c =
     let P : Property =
     c.args.p in
     let unrefused : property_refusal (meant P) ≡ 0 =
@@ -85,9 +85,9 @@ pack-requires c =
     let unrefused : property_refusal (meant P) ≡ 0 =
     sym c.refused-refusal.ensures ∙ c.if-refusal-ne0.false in
     let p = P in
-    let l = c.bits_of-list in
+    let l = c.bits_of in
     let t = taken_bounds p unrefused in (
-      omega (arith, length_list p l.result l.ensures t.most, c.size_of-size.ensures, t.most),
+      omega (arith, length_list p l.result l.ensures t.most, c.form_bytes-size.ensures, t.most),
       omega (arith, c.if-buf-size.false),
       list_bits p l.result l.ensures,
     )
@@ -102,11 +102,11 @@ returns c =
     sym c.refused-refusal.ensures ∙ c.if-refusal-ne0.false in
     let p = P in
     let buf = B in
-    let k = c.size_of-size in
+    let k = c.form_bytes-size in
     let fits = write_fits (meant p) buf unrefused (omega (arith, length_of_form p, k.ensures, c.if-buf-size.false)) in (
       written-taken (meant p) buf k.result fits (k.ensures ∙ sym (length_of_form p)),
       c.pack.ensures
-          ∙ ap₂ (λ (x : List ℕ) (k : ℕ). packed (at x) k ++ drop k buf) c.bits_of-list.ensures (k.ensures ∙ sym (bits-size p))
+          ∙ ap₂ (λ (x : List ℕ) (k : ℕ). packed (at x) k ++ drop k buf) c.bits_of.ensures (k.ensures ∙ sym (bits-size p))
           ∙ ap (λ (x : List ℕ). x ++ drop (bytes p) buf) (packed-zeros (property_bits (meant p)) (352 - form_bits p.n))
           ∙ wrote p buf
           ∙ left-taken (meant p) buf fits,

@@ -18,7 +18,7 @@ shift s x i k h e =
 
 pub loop-k-init : goal.loop-k-init
 unfolding mask
-loop-k-init c = (search rules, refl)
+loop-k-init c = refl
 
 pub overflow_add-m : goal.overflow_add-m
 overflow_add-m c =
@@ -30,13 +30,5 @@ overflow_add-m c =
 pub loop-k-preserved : goal.loop-k-preserved
 loop-k-preserved c =
     let a = c.args in
-    let l = c.loop-k in (
-      search rules,
-      ap₂ (λ (x y : ℕ). x + y) l.invariant.1 (shift a.s.now c.field_at.result a.start l.k (omega arith) c.field_at.ensures)
-          ∙ mask-one_more (bit a.s.now) a.start l.k,
-    )
-
-pub returns : goal.returns
-returns c =
-    let a = c.args in
-    c.loop-k.invariant.1 ∙ ap (λ (k : ℕ). mask (bit a.s.now) a.start k) (le_antisymm c.loop-k.invariant.0 c.loop-k-test.false)
+    let l = c.loop-k in
+    ap₂ (λ (x y : ℕ). x + y) l.invariant (shift a.s.now c.field_at.result a.start l.k (omega arith) c.field_at.ensures) ∙ mask-one_more (bit a.s.now) a.start l.k

@@ -6,7 +6,4 @@ use Rattle.property_form.specs.Read.{mask}
 use Rattle.property_form.proofs.read.allowed.Given as goal
 
 abbrev pub invariant-loop-k : goal.invariant-loop-k
-invariant-loop-k l = (l.k ≤ 64) × (l.m ≡ mask (bit l.s) l.start l.k)
-
-abbrev pub decreases-loop-k : goal.decreases-loop-k
-decreases-loop-k l = 64 - l.k
+invariant-loop-k l = l.m ≡ mask (bit l.s) l.start l.k

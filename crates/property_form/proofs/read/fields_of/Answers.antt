@@ -26,5 +26,5 @@ fields s n e output number allowed lb ub eo en ea el eu =
 pub returns : goal.returns
 unfolding property_read
 returns c =
-    fields c.args.s.now c.args.n c.requires.0 _ _ _ _ _ c.outputs-output.ensures c.numbers-number.ensures
+    fields c.args.s.now c.args.n c.requires.0 _ _ _ _ _ c.outputs.ensures c.numbers.ensures
     c.allowed.ensures c.field_at.ensures c.field_at-2.ensures

@@ -15,10 +15,10 @@ use Rattle.property_form.proofs.read.numbers.Goals as goal
 
 pub loop-i-init : goal.loop-i-init
 unfolding first
-loop-i-init c = (search rules, refl)
+loop-i-init c = refl
 
-pub narrow-requires : goal.narrow-requires
-narrow-requires c =
+pub overflow_cast-number : goal.overflow_cast-number
+overflow_cast-number c =
     let s = c.args.s.now in
     let i = c.loop-i.i in
     omega (arith, number_lt (bit s) (bit-lt s) (59 + 7 * i) 6, c.field_at.ensures)
@@ -26,13 +26,5 @@ narrow-requires c =
 pub loop-i-preserved : goal.loop-i-preserved
 loop-i-preserved c =
     let s = c.args.s.now in
-    let l = c.loop-i in (
-      search rules,
-      ap₂ (λ (x : List ℕ) (y : ℕ). set x l.i y) l.invariant.1 (c.narrow.ensures ∙ c.field_at.ensures)
-          ∙ places_store (number_read s) 0 l.i (omega arith),
-    )
-
-pub returns : goal.returns
-returns c =
-    let a = c.args in
-    c.loop-i.invariant.1 ∙ ap (λ (k : ℕ). places (number_read a.s.now) k 0) (le_antisymm c.loop-i.invariant.0 c.loop-i-test.false)
+    let i = c.loop-i.i in
+    ap₂ (λ (x : List ℕ) (y : ℕ). set x i y) c.loop-i.invariant c.field_at.ensures ∙ places_store (number_read s) 0 i (omega arith)

@@ -5,7 +5,4 @@ use Rattle.property_form.specs.Read.{places, number_read}
 use Rattle.property_form.proofs.read.numbers.Given as goal
 
 abbrev pub invariant-loop-i : goal.invariant-loop-i
-invariant-loop-i l = (l.i ≤ l.n) × (l.number ≡ places (number_read l.s) l.i 0)
-
-abbrev pub decreases-loop-i : goal.decreases-loop-i
-decreases-loop-i l = l.n - l.i
+invariant-loop-i l = l.number ≡ places (number_read l.s) l.i 0

@@ -15,18 +15,10 @@ use Rattle.property_form.proofs.read.outputs.Goals as goal
 
 pub loop-i-init : goal.loop-i-init
 unfolding first
-loop-i-init c = (search rules, refl)
+loop-i-init c = refl
 
 pub loop-i-preserved : goal.loop-i-preserved
 loop-i-preserved c =
     let s = c.args.s.now in
-    let l = c.loop-i in (
-      search rules,
-      ap₂ (λ (x : List Bool) (y : ℕ). set x l.i (eqb y 1)) l.invariant.1 c.field_at.ensures
-          ∙ places_store (output_read s) false l.i (omega arith),
-    )
-
-pub returns : goal.returns
-returns c =
-    let a = c.args in
-    c.loop-i.invariant.1 ∙ ap (λ (k : ℕ). places (output_read a.s.now) k false) (le_antisymm c.loop-i.invariant.0 c.loop-i-test.false)
+    let i = c.loop-i.i in
+    ap₂ (λ (x : List Bool) (y : ℕ). set x i (eqb y 1)) c.loop-i.invariant c.field_at.ensures ∙ places_store (output_read s) false i (omega arith)

@@ -6,7 +6,4 @@ use Rattle.property_form.specs.Read.{places, output_read}
 use Rattle.property_form.proofs.read.outputs.Given as goal
 
 abbrev pub invariant-loop-i : goal.invariant-loop-i
-invariant-loop-i l = (l.i ≤ l.n) × (l.output ≡ places (output_read l.s) l.i false)
-
-abbrev pub decreases-loop-i : goal.decreases-loop-i
-decreases-loop-i l = l.n - l.i
+invariant-loop-i l = l.output ≡ places (output_read l.s) l.i false

@@ -4,7 +4,7 @@ use mathlib.Core.Path.{◌≡◌, refl, sym, ap, ap₂, ◌∙◌}
 use mathlib.Core.Bool.{Bool, true, false, not}
 use mathlib.Core.List.{List}
 use native.Mathlib.Omega.{arith}
-use borrow.Author.Tests.{lt-ltb, le-ltb, eq-eqb, ne_eqb}
+use borrow.Author.Tests.{lt-ltb, le-ltb, eq-eqb, eqb-true, ne_eqb}
 use lib.ListN.{length}
 use Rattle.meaning.specs.Numbers.{given, first_of}
 use Rattle.fields.specs.Fields.{field}
@@ -23,9 +23,10 @@ pad s n size v en es e =
 judged : (s : List ℕ) (short broken : Bool) → too_short s ≡ short → pad_broken s ≡ broken → first_of (given 7 short) (given 8 broken) ≡ broken_of s
 judged s short broken es eb = sym (ap₂ (λ (x y : Bool). first_of (given 7 x) (given 8 y)) es eb)
 
-pub returns-then-s-lt1 : goal.returns-then-s-lt1
-returns-then-s-lt1 c =
+pub returns-then-is_empty : goal.returns-then-is_empty
+returns-then-is_empty c =
     let s = c.args.s.now in
+    let none : length s ≡ 0 = eqb-true (length s) 0 (sym c.is_empty.ensures ∙ c.if-is_empty.true) in
     judged s true (pad_broken s) (lt-ltb (length s) (form_size (length_read s)) (omega arith)) refl
 
 pub returns-then-s-size : goal.returns-then-s-size
@@ -38,7 +39,7 @@ returns-then-field_at-eq0 c =
     let S : List ℕ =
     c.args.s.now in
     let is-pad : c.field_at.result ≡ pad_read S =
-    pad S _ _ _ c.length_of-n.ensures.0 c.size_of-size.ensures c.field_at.ensures in
+    pad S _ _ _ c.length_of-n.ensures.0 c.form_bytes-size.ensures c.field_at.ensures in
     let s = S in
     judged s false false (le-ltb (length s) (form_size (length_read s)) (omega arith))
     (ap not (eq-eqb (pad_read s) 0 (sym is-pad ∙ c.if-field_at-eq0.true)))
@@ -48,7 +49,7 @@ returns-else-field_at-eq0 c =
     let S : List ℕ =
     c.args.s.now in
     let is-pad : c.field_at.result ≡ pad_read S =
-    pad S _ _ _ c.length_of-n.ensures.0 c.size_of-size.ensures c.field_at.ensures in
+    pad S _ _ _ c.length_of-n.ensures.0 c.form_bytes-size.ensures c.field_at.ensures in
     let s = S in
     judged s false true (le-ltb (length s) (form_size (length_read s)) (omega arith))
     (ap not (ne_eqb (pad_read s) 0 (λ e. c.if-field_at-eq0.false (is-pad ∙ e))))

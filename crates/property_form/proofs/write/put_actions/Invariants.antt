@@ -16,7 +16,4 @@ put_first list output number i =
     paste list 58 (sequence_bits (first (λ j. action_of (get_or output j false) (get_or number j 0)) i)) (7 * i)
 
 abbrev pub invariant-loop-i : goal.invariant-loop-i
-invariant-loop-i l = (l.i ≤ l.n) × (l.list ≡ put_first l.initial.list l.output l.number l.i) × (length l.list ≡ length l.initial.list)
-
-abbrev pub decreases-loop-i : goal.decreases-loop-i
-decreases-loop-i l = l.n - l.i
+invariant-loop-i l = l.list ≡ put_first l.initial.list l.output l.number l.i

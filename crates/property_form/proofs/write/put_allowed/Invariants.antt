@@ -7,7 +7,4 @@ use Rattle.fields.specs.Fields.{digit, run}
 use Rattle.property_form.proofs.write.put_allowed.Given as goal
 
 abbrev pub invariant-loop-k : goal.invariant-loop-k
-invariant-loop-k l = (l.k ≤ 64) × (l.list ≡ paste l.initial.list l.start (run (digit l.m) 0 64) l.k) × (length l.list ≡ length l.initial.list)
-
-abbrev pub decreases-loop-k : goal.decreases-loop-k
-decreases-loop-k l = 64 - l.k
+invariant-loop-k l = l.list ≡ paste l.initial.list l.start (run (digit l.m) 0 64) l.k
