@@ -77,7 +77,7 @@ pub fn judge(property: &[u8], trace: &[u8]) -> Result<Judged, Refusal>
     if property_form::form_bytes(p.n) < property.len() {
         return Err(Refusal::Broken);
     }
-    trace_verdict(p, trace)
+    trace_verdict(read.property, trace)
 }
 
 // The same in one number, for C: refusal × 65,536 + verdict × 16,384 + count.
