@@ -22,8 +22,6 @@ pub struct Cut {
     pub armed: u64,
 }
 
-const BROKEN: u64 = 1;
-
 // Nothing matched yet.
 pub fn start() -> Cut
     ensures { result ≡ cut_of Matcher.at_start }
@@ -43,10 +41,7 @@ pub fn stray(n: usize, cut: Cut) -> bool
     requires { n ≤ 32 }
     ensures { result ≡ Sets.stray n cut }
 {
-    if 0 < cut.mask >> (n + 1) {
-        return true;
-    }
-    0 < cut.armed >> (n + 2)
+    0 < cut.mask >> (n + 1) || 0 < cut.armed >> (n + 2)
 }
 
 // The verdict, where the set is that of every explanation.
@@ -71,9 +66,9 @@ fn step(table: &Table, at: usize, n: usize, mask: u64) -> u64
     let mut rest = mask;
     let mut r = 0u64;
     while rest != 0 {
-        let k = u64::trailing_zeros(rest) as usize;
-        r = r | (1u64 << table[at + k]);
-        rest = rest & (rest - 1);
+        let k = rest.trailing_zeros() as usize;
+        r |= 1u64 << table[at + k];
+        rest &= rest - 1;
     }
     r
 }
@@ -82,42 +77,19 @@ fn step(table: &Table, at: usize, n: usize, mask: u64) -> u64
 fn outside(allowed: u64, output: bool, action: u64) -> bool
     ensures { (p : Property) → p.allowed ≡ allowed → result ≡ Matcher.outside (meant p) (action_of output action) }
 {
-    if output {
-        if action <= LAST_ACTION as u64 {
-            return (allowed >> action) % 2 != 1;
-        }
-        return true;
-    }
-    false
-}
-
-// Broken, if it was or is now.
-fn with_broken(before: u64, broken: bool) -> u64
-    ensures { result ≡ cond broken 1 before }
-{
-    if broken {
-        return BROKEN;
-    }
-    before
-}
-
-// Lengths of two masks together.
-fn both(a: u64, b: u64) -> u64
-    ensures { (result ≡ bit_or a b) × ((w : ℕ) → a < 2 ^ w → b < 2 ^ w → result < 2 ^ w) }
-{
-    a | b
+    output && (u64::from(LAST_ACTION) < action || (allowed >> action) % 2 != 1)
 }
 
 // The words of the lengths that are not armed or are so no more, those that stay armed, and broken: a whole match is armed too.
-fn arranged(n: usize, free: u64, still: u64, broken: u64) -> Cut
-    requires { (n ≤ 32) × (free < 2 ^ suc n) × (still < 2 ^ suc n) × (broken < 2) }
-    ensures { Arranged n free still broken result }
+fn arranged(n: usize, free: u64, still: u64, broken: bool) -> Cut
+    requires { (n ≤ 32) × (free < 2 ^ suc n) × (still < 2 ^ suc n) }
+    ensures { Arranged n free still (cond broken 1 0) result }
 {
     let low = free & ((1u64 << n) - 1);
-    let up = both(free - low, still);
+    let up = (free - low) | still;
     Cut {
         mask: low,
-        armed: up * 2 + broken,
+        armed: up * 2 + u64::from(broken),
     }
 }
 
@@ -131,13 +103,13 @@ pub fn moved(steps: &Steps, cut: Cut, output: bool, action: u64) -> Cut
     let n = steps.property.n;
     let at = table::row(output, action);
     let armed_lengths = cut.armed / 2;
-    let broken = cut.armed % 2;
+    let broken = cut.armed % 2 == 1;
+    if outside(steps.property.allowed, output, action) {
+        let free = step(table, at, n, cut.mask);
+        return arranged(n, free, 0, broken || 0 < armed_lengths);
+    }
     if output {
-        if outside(steps.property.allowed, output, action) {
-            let free = step(table, at, n, cut.mask);
-            return arranged(n, free, 0, with_broken(broken, 0 < armed_lengths));
-        }
-        let free = step(table, at, n, both(cut.mask, armed_lengths));
+        let free = step(table, at, n, cut.mask | armed_lengths);
         return arranged(n, free, 0, broken);
     }
     let free = step(table, at, n, cut.mask);
