@@ -47,6 +47,7 @@ fn tap_of(kind: u64, action: u8, counter: u32, before: u64) -> RecordRead
 pub fn read_tap(s: &[u8], before: u64) -> RecordRead
     ensures { IsTapRead s.now before result }
 {
+    // As in `read_record`: one function for both would take a size, a reader of the third field and a rule, which is no plainer.
     if s.len() < TAP_SIZE {
         return RecordRead::Refused(7);
     }
@@ -62,6 +63,7 @@ pub fn read_tap(s: &[u8], before: u64) -> RecordRead
 pub fn tap_rest(s: &[u8], before: u64) -> &[u8]
     ensures { Rest (tap_bytes_read s.now before) s.entry result }
 {
+    // As in `record_rest`, whose `&s[6..]` may not change (document 01), so that no function with the size as a parameter serves both.
     if record_form::is_taken(read_tap(s, before)) {
         &s[5..]
     } else {
