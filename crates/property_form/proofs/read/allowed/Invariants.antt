@@ -1,5 +1,4 @@
 -- `property_form::read::allowed` meets its contract. The loop's invariant: m is the mask of the first k bits.
-use Prim.Native.Nat.{◌-◌, ◌≤◌}
 use mathlib.Core.Path.{◌≡◌}
 use Rattle.fields.specs.Fields.{bit}
 use Rattle.property_form.specs.Read.{mask}

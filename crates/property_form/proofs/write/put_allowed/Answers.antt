@@ -1,13 +1,12 @@
 -- `property_form::write::put_allowed` meets its contract. The loop's invariant: the first k bits are put.
 use Prim.Native.Nat.{ℕ, ◌+◌}
-use mathlib.Core.Path.{refl, sym, ap, ap₂, ◌∙◌}
+use mathlib.Core.Path.{sym, ap, ap₂, ◌∙◌}
 use mathlib.Core.List.{List}
-use native.Mathlib.Nat.{le_antisymm, zero-add}
+use native.Mathlib.Nat.{zero-add}
 use native.Mathlib.Numerals.{add-one}
 use native.Mathlib.Omega.{arith}
-use borrow.Author.Rules.{rules}
-use lib.ListN.{length-set, set}
-use lib.Seq.{paste, paste-zero, paste-suc}
+use lib.ListN.{set}
+use lib.Seq.{paste, paste-suc}
 use Rattle.fields.specs.Fields.{digit, run}
 use Rattle.fields.proofs.Laws.{length_run, getD_run}
 use Rattle.property_form.proofs.write.put_allowed.Goals as goal

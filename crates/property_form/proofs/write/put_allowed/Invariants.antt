@@ -1,7 +1,5 @@
 -- `property_form::write::put_allowed` meets its contract. The loop's invariant: the first k bits are put.
-use Prim.Native.Nat.{◌-◌, ◌≤◌}
 use mathlib.Core.Path.{◌≡◌}
-use lib.ListN.{length}
 use lib.Seq.{paste}
 use Rattle.fields.specs.Fields.{digit, run}
 use Rattle.property_form.proofs.write.put_allowed.Given as goal
