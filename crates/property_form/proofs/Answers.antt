@@ -1,5 +1,6 @@
 -- The answers of reader and writer, by the refusal.
 use Prim.Native.Nat.{ℕ, ◌≤◌, ◌<◌}
+use Rattle.std.specs.Prelude.{Ok, Err}
 use mathlib.Core.Path.{◌≡◌, refl, sym, ap, ap₂, ◌∙◌}
 use mathlib.Core.Bool.{Bool, true, false}
 use mathlib.Core.List.{List, ◌++◌}
@@ -13,11 +14,12 @@ use Rattle.meaning.proofs.Refusals.{first_of-none, first_of-given, first_of-firs
 use Rattle.property.specs.declared.Property.{Property}
 use Rattle.property.specs.Meant.{meant}
 use Rattle.property.specs.Zeros.{zeros}
-use Rattle.property_form.specs.declared.PropertyRead.{PropertyRead}
-use Rattle.property_form.specs.declared.Written.{Written}
+use Rattle.outcomes.specs.declared.Refusal.{Refusal}
+use Rattle.outcomes.specs.Numbers.{refusal_number}
+use Rattle.outcomes.proofs.Same.{refusal_not_0}
 use Rattle.property_form.specs.Form.{property_form, form_size}
-use Rattle.property_form.specs.Read.{length_read, property_read, too_short, pad_read, pad_broken, read_refusal, read, taken}
-use Rattle.property_form.specs.Write.{write_refusal, written, left}
+use Rattle.property_form.specs.Read.{length_read, property_read, too_short, pad_read, pad_broken, read_refusal, PropertyRead, read_numbers, read, taken}
+use Rattle.property_form.specs.Write.{Written, write_refusal, written_numbers, written, left}
 
 -- ---- the reader
 
@@ -29,6 +31,10 @@ pub refusal_split : (s : List ℕ) → read_refusal s ≡ first_of (broken_of s)
 unfolding read_refusal
 refusal_split s =
     first_of-first (given 7 (too_short s)) (given 8 (pad_broken s)) (property_refusal (meant (property_read s)))
+
+-- A form that is not broken has the refusal of its property.
+pub of-property : (s : List ℕ) → 0 ≡ broken_of s → read_refusal s ≡ property_refusal (meant (property_read s))
+of-property s e = refusal_split s ∙ ap (λ (x : ℕ). first_of x (property_refusal (meant (property_read s)))) (sym e)
 
 -- The bytes of a form that is not broken are all there, and its pad bits are zero.
 module _ (s : List ℕ) (e : broken_of s ≡ 0) where
@@ -73,6 +79,20 @@ pub read_good : (s : List ℕ) (r : PropertyRead) → r ≡ read s → r.refusal
 read_good s r e z =
     let none : read_refusal s ≡ 0 = sym (refusal-read s) ∙ sym (ap (λ (x : PropertyRead). x.refusal) e) ∙ z in
     ap (λ (q : Property). property_refusal (meant q)) (ap (λ (x : PropertyRead). x.property) e ∙ property_of_read s none) ∙ not-refused s none
+
+-- The reader's results.
+pub read_err : (s : List ℕ) (r : Refusal) → refusal_number r ≡ read_refusal s → read_numbers (Err r) ≡ read s
+read_err s r e = read-refused s (refusal_number r) zeros e (refusal_not_0 r) refl
+
+pub read_broken : (s : List ℕ) (r : Refusal) → refusal_number r ≡ broken_of s → read_numbers (Err r) ≡ read s
+read_broken s r e =
+    read_err s r
+    (e ∙ sym (refusal_split s ∙ first_of-given (broken_of s) (property_refusal (meant (property_read s))) (λ z. refusal_not_0 r (e ∙ z))))
+
+pub read_ok : (s : List ℕ) (p : Property) → read_numbers (Ok p) ≡ read s → (read_refusal s ≡ 0) × (p ≡ property_read s)
+read_ok s p e =
+    let none : read_refusal s ≡ 0 = sym (ap (λ (x : PropertyRead). x.refusal) e ∙ refusal-read s) in
+    (none, ap (λ (x : PropertyRead). x.property) e ∙ property_of_read s none)
 
 pub taken_none : (s : List ℕ) → (read_refusal s ≡ 0 → ⊥) → 0 ≡ taken s
 unfolding taken
@@ -125,6 +145,10 @@ module _ (q : Words.Property) (b : List ℕ) where
   pub write_fits : property_refusal q ≡ 0 → length (property_form q) ≤ length b → write_refusal q b ≡ 0
   unfolding write_refusal
   write_fits e h = rw (e, le-ltb (length b) (length (property_form q)) h)
+
+  -- a refusal by the property, and one by the buffer: nothing is written
+  pub write_err : (r : Refusal) → refusal_number r ≡ write_refusal q b → (written_numbers (Err r) ≡ written q b) × (b ≡ left q b)
+  write_err r e = (written-refused (refusal_number r) e (refusal_not_0 r), left-refused (λ z. refusal_not_0 r (e ∙ z)))
 
   -- what a taken answer says
   pub refusal-written : (written q b).refusal ≡ write_refusal q b

@@ -4,7 +4,6 @@ use mathlib.Core.Path.{◌≡◌, sym, ap, ap₂, ◌∙◌, subst}
 use mathlib.Core.List.{List, ◌++◌}
 use native.Mathlib.Omega.{arith}
 use lib.ListN.{length, drop, replicate, length-append, length-replicate}
-use Rattle.meaning.specs.Numbers.{property_refusal}
 use Rattle.property.specs.Meant.{meant}
 use Rattle.property.specs.declared.Property.{Property}
 use Rattle.property.proofs.Refusal.{taken_bounds}
@@ -12,7 +11,10 @@ use Rattle.fields.specs.Fields.{at, packed, Bits, form, size}
 use Rattle.fields.proofs.Packed.{Bits-append, Bits-zeros, packed-zeros, length-form}
 use Rattle.property_form.specs.Form.{property_bits, property_form, form_bits, form_size}
 use Rattle.property_form.proofs.FormBits.{length_of_bits, length_of_form, Bits-property}
-use Rattle.property_form.proofs.Answers.{written-refused, left-refused, written-taken, left-taken, write_first, write_short, write_fits}
+use Rattle.std.proofs.lemmas.Result.{err_from_is_err_and}
+use Rattle.outcomes.specs.declared.Refusal.TheVariants.{NoRoom}
+use Rattle.outcomes.proofs.Same.{refusal_not_0}
+use Rattle.property_form.proofs.Answers.{write_err, written-taken, left-taken, write_first, write_short, write_fits}
 use Rattle.property_form.proofs.write_property.Goals as goal
 
 -- The bytes of the form.
@@ -39,54 +41,31 @@ list_bits p l e i =
     (Bits-append (property_bits (meant p)) (replicate (352 - form_bits p.n) 0) (Bits-property (meant p))
     (Bits-zeros (352 - form_bits p.n)) i)
 
-pub returns-then-refusal-ne0 : goal.returns-then-refusal-ne0
-returns-then-refusal-ne0 c =
+pub returns-in_err-refused : goal.returns-in_err-refused
+returns-in_err-refused c =
     let q = meant c.args.p in
-    let buf = c.args.buf.now in
-    let r = c.refused-refusal in
-    let h : (property_refusal q ≡ 0 → ⊥) = λ e. c.if-refusal-ne0.true (r.ensures ∙ e) in (
-      written-refused q buf r.result (r.ensures ∙ sym (write_first q buf h)) c.if-refusal-ne0.true,
-      left-refused q buf (λ e. h (sym (write_first q buf h) ∙ e)),
-    )
+    let r = c.in_err-refused.field-0.0 in
+    let h = c.in_err-refused.ensures in
+    let p = err_from_is_err_and c.from_residual.result c.from_residual.ensures.1 in
+    rw (p.1, p.2) (write_err q c.args.buf.now r (h ∙ sym (write_first q c.args.buf.now (λ e. refusal_not_0 r (h ∙ e)))))
 
 pub form_bytes-size-requires : goal.form_bytes-size-requires
-form_bytes-size-requires c =
-    let P : Property =
-    c.args.p in
-    let unrefused : property_refusal (meant P) ≡ 0 =
-    sym c.refused-refusal.ensures ∙ c.if-refusal-ne0.false in
-    omega (arith, taken_bounds P unrefused)
+form_bytes-size-requires c = omega (arith, taken_bounds c.args.p (sym c.in_ok-refused.ensures))
 
 pub returns-then-buf-size : goal.returns-then-buf-size
 returns-then-buf-size c =
-    let P : Property =
-    c.args.p in
-    let B : List ℕ =
-    c.args.buf.now in
-    let unrefused : property_refusal (meant P) ≡ 0 =
-    sym c.refused-refusal.ensures ∙ c.if-refusal-ne0.false in
-    let short = write_short (meant P) B unrefused (omega (arith, length_of_form P)) in (
-      written-refused (meant P) B 9 (sym short) (λ e. let z : ⊥ = omega arith in z),
-      left-refused (meant P) B (λ e. let z : ⊥ = omega arith in z),
-    )
+    let p = c.args.p in
+    let buf = c.args.buf.now in
+    write_err (meant p) buf NoRoom (sym (write_short (meant p) buf (sym c.in_ok-refused.ensures) (omega (arith, length_of_form p))))
 
 pub bits_of-requires : goal.bits_of-requires
-bits_of-requires c =
-    let P : Property =
-    c.args.p in
-    let unrefused : property_refusal (meant P) ≡ 0 =
-    sym c.refused-refusal.ensures ∙ c.if-refusal-ne0.false in
-    omega (arith, taken_bounds P unrefused)
+bits_of-requires c = omega (arith, taken_bounds c.args.p (sym c.in_ok-refused.ensures))
 
 pub pack-requires : goal.pack-requires
 pack-requires c =
-    let P : Property =
-    c.args.p in
-    let unrefused : property_refusal (meant P) ≡ 0 =
-    sym c.refused-refusal.ensures ∙ c.if-refusal-ne0.false in
-    let p = P in
+    let p = c.args.p in
     let l = c.bits_of in
-    let t = taken_bounds p unrefused in (
+    let t = taken_bounds p (sym c.in_ok-refused.ensures) in (
       omega (arith, length_list p l.result l.ensures t.most, c.form_bytes-size.ensures, t.most),
       omega (arith, c.if-buf-size.false),
       list_bits p l.result l.ensures,
@@ -94,16 +73,11 @@ pack-requires c =
 
 pub returns : goal.returns
 returns c =
-    let P : Property =
-    c.args.p in
-    let B : List ℕ =
-    c.args.buf.now in
-    let unrefused : property_refusal (meant P) ≡ 0 =
-    sym c.refused-refusal.ensures ∙ c.if-refusal-ne0.false in
-    let p = P in
-    let buf = B in
+    let p = c.args.p in
+    let buf = c.args.buf.now in
     let k = c.form_bytes-size in
-    let fits = write_fits (meant p) buf unrefused (omega (arith, length_of_form p, k.ensures, c.if-buf-size.false)) in (
+    let fits =
+    write_fits (meant p) buf (sym c.in_ok-refused.ensures) (omega (arith, length_of_form p, k.ensures, c.if-buf-size.false)) in (
       written-taken (meant p) buf k.result fits (k.ensures ∙ sym (length_of_form p)),
       c.pack.ensures
           ∙ ap₂ (λ (x : List ℕ) (k : ℕ). packed (at x) k ++ drop k buf) c.bits_of.ensures (k.ensures ∙ sym (bits-size p))
