@@ -23,8 +23,8 @@ case-back (Ok (Gap lost stamp)) = refl
 case-back (Ok (End stamp)) = refl
 case-back (Err refusal) = refused_case (refusal_number refusal) (refusal_not_0 refusal)
 
--- The number of a record that was read is 0, that of a refusal is its own.
-pub taken_number : (x : Record) → (numbers (read_case (Ok x))).refusal ≡ 0
+-- "0: taken"
+taken_number : (x : Record) → (numbers (read_case (Ok x))).refusal ≡ 0
 taken_number (Input action stamp) = refl
 taken_number (Output action stamp) = refl
 taken_number (Gap lost stamp) = refl
