@@ -12,7 +12,10 @@ use Rattle.meaning.specs.Calls.{Call, mark_at}
 use Rattle.property.specs.Meant.{action_of, meant}
 use Rattle.property.specs.declared.Property.{Property}
 use Rattle.record_form.specs.Record
-use Rattle.record_form.specs.declared.RecordRead.TheVariants.{Input, Output, Gap, End as EndRead, Refused as RefusedRead}
+use Rattle.record_form.specs.declared.Record.TheVariants.{Input, Output, Gap, End as EndRead}
+use Rattle.outcomes.specs.declared.Refusal.{Refusal as RefusalGiven}
+use Rattle.outcomes.specs.Numbers.{refusal_number}
+use Rattle.std.specs.Prelude.{Ok, Err}
 use Rattle.trace_form.specs.Trace.{Entry, kind_of, entry_call}
 use Rattle.matcher.specs.Sets.{cut_of}
 use Rattle.cuts.specs.Steps.{line_of}
@@ -77,11 +80,13 @@ name_called true k = refl
 name_called false k = refl
 
 -- the cases of the readers' and of the walk's answers have the document's numbers;
-pub record_called : (a t n : ℕ)
-    → (Record.numbers (Input a t) ≡ record { refusal = 0; kind = 0; action = a; stamp = t }) × (Record.numbers (Output a t) ≡ record { refusal = 0; kind = 1; action = a; stamp = t })
-    × (Record.numbers (Gap a t) ≡ record { refusal = 0; kind = 2; action = a; stamp = t }) × (Record.numbers (EndRead t) ≡ record { refusal = 0; kind = 3; action = 0; stamp = t })
-    × (Record.numbers (RefusedRead n) ≡ record { refusal = n; kind = 0; action = 0; stamp = 0 })
-record_called a t n = (refl, refl, refl, refl, refl)
+pub record_called : (a t : ℕ) (r : RefusalGiven)
+    → (Record.numbers (Record.read_case (Ok (Input a t))) ≡ record { refusal = 0; kind = 0; action = a; stamp = t })
+    × (Record.numbers (Record.read_case (Ok (Output a t))) ≡ record { refusal = 0; kind = 1; action = a; stamp = t })
+    × (Record.numbers (Record.read_case (Ok (Gap a t))) ≡ record { refusal = 0; kind = 2; action = a; stamp = t })
+    × (Record.numbers (Record.read_case (Ok (EndRead t))) ≡ record { refusal = 0; kind = 3; action = 0; stamp = t })
+    × (Record.numbers (Record.read_case (Err r)) ≡ record { refusal = refusal_number r; kind = 0; action = 0; stamp = 0 })
+record_called a t r = (refl, refl, refl, refl, refl)
 
 pub stop_called : (n : ℕ)
     → (stop_number Budget ≡ 0) × (stop_number End ≡ 1) × (stop_number (Refused n) ≡ 2) × (stop_refusal Budget ≡ 0) × (stop_refusal End ≡ 0) × (stop_refusal (Refused n) ≡ n)

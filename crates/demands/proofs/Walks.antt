@@ -15,12 +15,10 @@ use Rattle.meaning.specs.History.{stamp_of as call-stamp}
 use Rattle.meaning.proofs.Clocks.{by_time_each}
 use Rattle.property.specs.Meant.{meant}
 use Rattle.property.specs.declared.Property.{Property}
-use Rattle.record_form.specs.Record.{Reader, ReadBy, RecordAnswer, record_size, record_answer, case_of}
+use Rattle.record_form.specs.Record.{Reader, ReadBy, RecordAnswer, RecordRead, record_size, record_answer, case_of}
 use Rattle.record_form.specs.Record
 use Rattle.trace_form.specs.ReadAs.{ReadAs, read_as, case_as}
 use Rattle.trace_form.specs.Trace.{Entry, kind_of, action_of, stamp_of, entry_call}
-use Rattle.record_form.specs.declared.RecordRead.{RecordRead}
-use Rattle.record_form.specs.declared.RecordRead.TheVariants.{Input, Output, Gap, End as RecordEnd, Refused as RecordRefused}
 use Rattle.trace_form.proofs.ReadAs.{read-case, refused-given, fields_read}
 use Rattle.trace_form.proofs.Reader.{Reads, record_reads}
 use Rattle.cuts.specs.Steps.{taken_by}
@@ -50,13 +48,13 @@ front {size} {reader} reads s before = subst (Front reader s before) (sym (read-
     h = record { answer = refl; in_numbers = reads.by_case s before }
 
     go : (r : RecordRead) → ReadBy reader s before r → Front reader s before (case_as r)
-    go (Input a t) k = entry (Entry.input a t) (sym k.in_numbers)
-    go (Output a t) k = entry (Entry.output a t) (sym k.in_numbers)
-    go (Gap n t) k = entry (Entry.gap n t) (sym k.in_numbers)
-    go (RecordEnd t) k =
+    go (RecordRead.input_read a t) k = entry (Entry.input a t) (sym k.in_numbers)
+    go (RecordRead.output_read a t) k = entry (Entry.output a t) (sym k.in_numbers)
+    go (RecordRead.gap_read n t) k = entry (Entry.gap n t) (sym k.in_numbers)
+    go (RecordRead.end_read t) k =
         let e = sym k.in_numbers in
         ended (e ∙ ap (Record.taken Record.end 0) (reads.end-stamp s before 0 t e))
-    go (RecordRefused n) k =
+    go (RecordRead.refused_read n) k =
         let r = refused-given (reader s before) n (read-case k) in
         refused n r.1 r.0
 

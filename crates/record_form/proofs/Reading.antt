@@ -1,7 +1,7 @@
 -- The reader's answer: what is known where it refuses and where it takes.
 use Prim.Native.Nat.{ℕ, zero, suc, ◌+◌, ◌<◌, ◌≤◌}
 use mathlib.Core.Bool.{Bool, true, false, not, true≢false}
-use mathlib.Core.Path.{◌≡◌, refl, sym, ◌∙◌, ap, subst}
+use mathlib.Core.Path.{◌≡◌, refl, sym, ◌∙◌, ap}
 use mathlib.Core.List.{List}
 use native.Mathlib.Omega.{arith}
 use lib.ListN.{length}
@@ -11,16 +11,13 @@ use Rattle.laws.proofs.Tests.{or_split}
 use Rattle.meaning.specs.Numbers.{given, first_of}
 use Rattle.meaning.proofs.Refusals.{given-none, none_first, unless_taken, unless_kept}
 use Rattle.fields.specs.Fields.{field}
-use Rattle.fields.proofs.Laws.{field_lt}
-use Rattle.record_form.specs.declared.RecordRead.{RecordRead}
-use Rattle.record_form.specs.declared.RecordRead.TheVariants.{Refused}
-use Rattle.record_form.specs.Record.{Reader, ReadBy, RecordAnswer, numbers, case_of, case_by, taken, refused, answered, broken, stamp_above, fields_refusal, read_refusal, record_answer, IsRead, bytes_read}
-use Rattle.record_form.proofs.Rules.{broken-end, broken-kind}
-
--- the answer to fields
-abbrev pub fields_numbers : ℕ → ℕ → ℕ → ℕ → RecordAnswer
-fields_numbers kind action less before =
-    answered (fields_refusal kind action less before) (taken kind action (before + less))
+use Rattle.std.specs.Prelude.{Result, Err}
+use Rattle.outcomes.specs.declared.Refusal.{Refusal}
+use Rattle.outcomes.specs.declared.Refusal.TheVariants.{TooShort}
+use Rattle.record_form.specs.declared.Record.{Record}
+use Rattle.record_form.specs.Record.{Reader, ReadBy, RecordAnswer, RecordRead, read_case, numbers, case_of, case_by, taken, refused, answered, broken, stamp_above, fields_refusal, read_refusal, record_answer, IsRead, bytes_read}
+use Rattle.record_form.proofs.Rules.{broken-end, broken-kind, fields_numbers}
+use Rattle.record_form.proofs.Cases.{case-back}
 
 -- the number of an answer is the one that it was given
 pub answered-number : (n : ℕ) (a : RecordAnswer) → a.refusal ≡ 0 → (answered n a).refusal ≡ n
@@ -45,13 +42,9 @@ module _ (size : ℕ) (s : List ℕ) where
       let q = none_first 7 _ p.1 in
       (ltb-false _ _ p.0, q.0, given-none 3 _ q.1)
 
--- A case whose numbers are the reader's answer is what the reader promises, and so is the case of the answer itself.
-pub case-read : {reader : Reader} {s : List ℕ} {before : ℕ} {r : RecordRead} (a : RecordAnswer) → r ≡ case_of a → numbers (case_of a) ≡ a → a ≡ reader s before
-    → ReadBy reader s before r
-case-read a e same is = record { answer = e ∙ ap case_of is; in_numbers = ap numbers e ∙ same ∙ is }
-
-pub as_case : {reader : Reader} {s : List ℕ} {before : ℕ} {r : RecordRead} → ReadBy reader s before r → ReadBy reader s before (case_of (reader s before))
-as_case {reader} {s} {before} h = subst (ReadBy reader s before) h.answer h
+-- A result whose numbers are the reader's answer is what the reader promises.
+pub read_by : {reader : Reader} {s : List ℕ} {before : ℕ} (r : Result Record Refusal) → numbers (read_case r) ≡ reader s before → ReadBy reader s before (read_case r)
+read_by r e = record { answer = sym (case-back r) ∙ ap case_of e; in_numbers = e }
 
 -- The number that `is_taken` tests is the reader's refusal.
 module _ {reader : Reader} {s : List ℕ} {before : ℕ} {r : RecordRead} {b : Bool} (h : ReadBy reader s before r) (e : b ≡ eqb (numbers r).refusal 0) where
@@ -134,17 +127,13 @@ module _ (s : List ℕ) (before : ℕ) where
   taken-answer e = rw e
 
   -- the fields one by one, and then their record
-  pub read_fields : (kind action less : ℕ) (r : RecordRead) → 6 ≤ length s
-      → kind ≡ field s 0 2 → action ≡ field s 2 6 → less ≡ field s 8 40 → r ≡ case_of (fields_numbers kind action less before)
-      → IsRead s before r
-  read_fields kind action less r h hk ha hl e =
-      let same : fields_numbers kind action less before ≡ record_answer s before = rw (hk, ha, hl) (sym (long h)) in
-      let small : kind ≤ 3 = omega (arith, field_lt s 0 2) in
-      case-read (fields_numbers kind action less before) e (fields_same_numbers kind action less before small) same
+  pub read_fields : (kind action less : ℕ) (r : Result Record Refusal) → 6 ≤ length s
+      → kind ≡ field s 0 2 → action ≡ field s 2 6 → less ≡ field s 8 40 → numbers (read_case r) ≡ fields_numbers kind action less before
+      → IsRead s before (read_case r)
+  read_fields kind action less r h hk ha hl e = read_by r (e ∙ rw (hk, ha, hl) (sym (long h)))
 
-  pub read_short : length s < 6 → IsRead s before (Refused 7)
-  unfolding case_by
-  read_short h = case-read (refused 7) refl refl (sym (short h))
+  pub read_short : length s < 6 → IsRead s before (read_case (Err TooShort))
+  read_short h = read_by (Err TooShort) (sym (short h))
 
   -- ---- the rest
   pub size-taken : read_refusal s before ≡ 0 → bytes_read s before ≡ 6

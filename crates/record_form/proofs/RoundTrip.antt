@@ -11,9 +11,8 @@ use denote.Ref.{Bor}
 use lib.Dec.{eqb, lit≤}
 use borrow.Author.Tests.{le-ltb, eq-eqb, ne_eqb, eqb-true, eqb-false, not-false}
 use Rattle.fields.specs.Fields.{field}
-use Rattle.record_form.specs.declared.RecordRead.{RecordRead}
 use Rattle.fields.specs.Rest.{Rest}
-use Rattle.record_form.specs.Record.{RecordAnswer, taken, fields_refusal, read_refusal, record_answer, numbers, IsRead, bytes_read, write_refusal, Bytes, record_form, written, IsWritten}
+use Rattle.record_form.specs.Record.{RecordAnswer, RecordRead, taken, fields_refusal, read_refusal, record_answer, numbers, IsRead, bytes_read, write_refusal, Bytes, record_form, written, IsWritten}
 use Rattle.record_form.proofs.Rules.{within}
 use Rattle.record_form.proofs.Reading.{Readable, unbroken, is_taken, taken-answer, refusal_of, size-taken}
 use Rattle.fields.proofs.Laws.{field_lt}

@@ -1,11 +1,10 @@
 // The packed record of document 01: its reader, the rest behind it, and its writer.
 #![tactic(auto)]
 
-ghost use Rattle.std.specs.Prelude.{◌≡◌, true, false, ◌++◌, ◌+◌, ◌≤◌, ◌<◌, length, drop, eqb, MatchResult};
+ghost use Rattle.std.specs.Prelude.{◌≡◌, true, false, ◌++◌, ◌+◌, ◌≤◌, ◌<◌, length, drop, eqb};
 ghost use Rattle.outcomes.specs.Numbers.{refusal_in};
-ghost use Rattle.outcomes.specs.declared.Refusal.TheVariants.{StampTooLate};
 ghost use Rattle.fields.specs.Rest.{Rest};
-ghost use Rattle.record_form.specs.Record.{record_size, numbers, read_case, taken, answered, broken, stamp_above, fields_refusal, IsRead, bytes_read, write_refusal, record_form, IsWritten};
+ghost use Rattle.record_form.specs.Record.{record_size, numbers, read_case, taken, answered, broken, fields_refusal, IsRead, bytes_read, write_refusal, record_form, IsWritten};
 
 use limits::{LAST_ACTION, LAST_STAMP};
 use outcomes::Refusal;
@@ -25,30 +24,36 @@ pub enum Record {
     End(u64),
 }
 
-// The stamp that lies so much behind the one before. That one, or the sum, may be past the limit.
-fn stamp_behind(before: u64, less: u64) -> Result<u64, Refusal>
-    ensures { MatchResult result (λ stamp. (stamp ≡ before + less) × (stamp_above (before + less) before ≡ false))
-        (λ refusal. (refusal ≡ StampTooLate) × (stamp_above (before + less) before ≡ true)) }
+// A record, read or to be written, is broken; `later`: its stamp is other than the one before.
+fn is_broken(kind: u64, action: u8, later: bool) -> bool
+    ensures { result ≡ broken kind action later }
 {
-    if LAST_STAMP < before || LAST_STAMP - before < less {
-        return Err(Refusal::StampTooLate);
+    match kind {
+        0..=2 => false,
+        3 => action != 0 || later,
+        _ => true,
     }
-    Ok(before + less)
 }
 
-// The record that these fields are, by its kind, each with its own rules.
+// The record that these fields are, by its kind; the sum of the stamps may be past what a number holds.
 pub fn record_of(kind: u64, action: u8, less: u64, before: u64) -> Result<Record, Refusal>
     requires { kind < 4 }
     ensures { numbers (read_case result) ≡ answered (fields_refusal kind action less before) (taken kind action (before + less)) }
 {
-    match kind {
-        0 => Ok(Record::Input(action, stamp_behind(before, less)?)),
-        1 => Ok(Record::Output(action, stamp_behind(before, less)?)),
-        2 => Ok(Record::Gap(action, stamp_behind(before, less)?)),
-        // 3: two bits hold no other.
-        _ if action != 0 || less != 0 => Err(Refusal::Broken),
-        _ => Ok(Record::End(stamp_behind(before, less)?)),
+    if is_broken(kind, action, less != 0) {
+        return Err(Refusal::Broken);
     }
+    if LAST_STAMP < before || LAST_STAMP - before < less {
+        return Err(Refusal::StampTooLate);
+    }
+    let stamp = before + less;
+    Ok(match kind {
+        0 => Record::Input(action, stamp),
+        1 => Record::Output(action, stamp),
+        2 => Record::Gap(action, stamp),
+        // 3: two bits hold no other.
+        _ => Record::End(stamp),
+    })
 }
 
 // Reads one record from the front of `s`; `before` is the stamp before it.
@@ -84,22 +89,11 @@ pub fn record_rest(s: &[u8], before: u64) -> &[u8]
     }
 }
 
-// A record to be written would be broken; `later`: its stamp is other than the one before.
-fn to_be_broken(kind: u8, action: u8, later: bool) -> bool
-    ensures { result ≡ broken kind action later }
-{
-    match kind {
-        0..=2 => false,
-        3 => action != 0 || later,
-        _ => true,
-    }
-}
-
 // The refusal of a record to be written.
 fn refused(kind: u8, action: u8, stamp: u64, before: u64, size: usize) -> Result<(), Refusal>
     ensures { refusal_in result ≡ write_refusal kind action stamp before size }
 {
-    if to_be_broken(kind, action, stamp != before) {
+    if is_broken(u64::from(kind), action, stamp != before) {
         return Err(Refusal::Broken);
     }
     if LAST_ACTION < action {
@@ -130,7 +124,13 @@ fn put_record(kind: u8, action: u8, less: u64, buf: &mut [u8])
 }
 
 // Writes a record to the front of `buf`; `before` is the stamp before it.
-pub fn write_record(kind: u8, action: u8, stamp: u64, before: u64, buf: &mut [u8]) -> Result<(), Refusal>
+pub fn write_record(
+    kind: u8,
+    action: u8,
+    stamp: u64,
+    before: u64,
+    buf: &mut [u8],
+) -> Result<(), Refusal>
     ensures { IsWritten kind action stamp before buf.old buf.new (refusal_in result) }
 {
     refused(kind, action, stamp, before, buf.len())?;

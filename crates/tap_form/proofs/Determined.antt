@@ -2,11 +2,15 @@
 use Rattle.std.proofs.Common.{◌≡◌, ℕ, List, Bor}
 use Rattle.fields.specs.Rest.{Rest}
 use Rattle.fields.proofs.Determined.{rest_determined}
-use Rattle.record_form.specs.declared.RecordRead.{RecordRead}
+use Rattle.std.specs.Prelude.{Result}
+use Rattle.outcomes.specs.declared.Refusal.{Refusal}
+use Rattle.record_form.specs.declared.Record.{Record}
+use Rattle.record_form.specs.Record.{read_case}
 use Rattle.record_form.proofs.Determined.{read_record_determined}
 use Rattle.tap_form.specs.Tap.{IsTapRead, tap_bytes_read}
 
-pub read_tap_determined : {s : List ℕ} {before : ℕ} {r t : RecordRead} → IsTapRead s before r → IsTapRead s before t → r ≡ t
+pub read_tap_determined : {s : List ℕ} {before : ℕ} {r t : Result Record Refusal}
+    → IsTapRead s before (read_case r) → IsTapRead s before (read_case t) → r ≡ t
 read_tap_determined p q = read_record_determined p q
 
 -- Two rests are at one place and hold the same bytes.

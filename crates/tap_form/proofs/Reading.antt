@@ -8,11 +8,13 @@ use Rattle.meaning.specs.Limits.{most_lost}
 use Rattle.meaning.specs.Numbers.{given, first_of}
 use Rattle.meaning.proofs.Refusals.{unless_taken, unless_kept}
 use Rattle.fields.specs.Fields.{field}
-use Rattle.record_form.specs.Record.{RecordAnswer, end, numbers, case_of, case_by, taken, refused, answered, broken, stamp_above, fields_refusal}
-use Rattle.record_form.specs.declared.RecordRead.{RecordRead}
-use Rattle.record_form.specs.declared.RecordRead.TheVariants.{Refused}
-use Rattle.record_form.proofs.Rules.{broken-none, broken-end, is_0, not_0}
-use Rattle.record_form.proofs.Reading.{short_by, long_by, none_of_three, case-read, as_case, fields_numbers, fields_same_numbers, answered-number}
+use Rattle.record_form.specs.Record.{RecordAnswer, end, read_case, numbers, case_of, case_by, taken, refused, answered, broken, stamp_above, fields_refusal}
+use Rattle.std.specs.Prelude.{Result, Err}
+use Rattle.outcomes.specs.declared.Refusal.{Refusal}
+use Rattle.outcomes.specs.declared.Refusal.TheVariants.{TooShort}
+use Rattle.record_form.specs.declared.Record.{Record}
+use Rattle.record_form.proofs.Rules.{broken-none, broken-end, is_0, not_0, fields_numbers}
+use Rattle.record_form.proofs.Reading.{short_by, long_by, none_of_three, read_by, fields_same_numbers, answered-number}
 use Rattle.fields.proofs.Laws.{field_lt}
 use Rattle.trace_form.proofs.Reader.{by_size}
 use Rattle.tap_form.specs.Tap.{tap_size, since, tap_stamp, tap_broken, tap_action, tap_fields_refusal, tap_refusal, tap_answer, IsTapRead, tap_bytes_read}
@@ -177,23 +179,24 @@ module _ (s : List ℕ) (before : ℕ) where
       sym (ap (λ (a : RecordAnswer). a.stamp) v) ∙ end-stamp (field s 0 2) (field s 8 32) before (ap (λ (a : RecordAnswer). a.kind) v)
 
   -- the fields one by one, and then their record
-  pub tap_read_fields : (kind action counter : ℕ) (r : RecordRead) → 5 ≤ length s
-      → kind ≡ field s 0 2 → action ≡ field s 2 6 → counter ≡ field s 8 32 → r ≡ case_of (tap_numbers kind action counter before)
-      → IsTapRead s before r
-  tap_read_fields kind action counter r h hk ha hc e =
-      let same : tap_numbers kind action counter before ≡ tap_answer s before = rw (hk, ha, hc) (sym (tap_long h)) in
-      let small : kind < 4 = omega (arith, field_lt s 0 2) in
-      case-read (tap_numbers kind action counter before) e (tap_same_numbers action counter before kind small) same
+  pub tap_read_fields : (kind action counter : ℕ) (r : Result Record Refusal) → 5 ≤ length s
+      → kind ≡ field s 0 2 → action ≡ field s 2 6 → counter ≡ field s 8 32 → numbers (read_case r) ≡ tap_numbers kind action counter before
+      → IsTapRead s before (read_case r)
+  tap_read_fields kind action counter r h hk ha hc e = read_by r (e ∙ rw (hk, ha, hc) (sym (tap_long h)))
 
-  pub tap_read_short : length s < 5 → IsTapRead s before (Refused 7)
-  unfolding case_by
-  tap_read_short h = case-read (refused 7) refl refl (sym (tap_short h))
+  pub tap_read_short : length s < 5 → IsTapRead s before (read_case (Err TooShort))
+  tap_read_short h = read_by (Err TooShort) (sym (tap_short h))
 
   pub tap_always_read : IsTapRead s before (case_of (tap_answer s before))
+  unfolding case_by
   tap_always_read =
-      by_size tap_size s
-      (λ h. as_case (tap_read_fields (field s 0 2) (field s 2 6) (field s 8 32) _ h refl refl refl refl))
-      (λ h. as_case (tap_read_short h))
+      record {
+        answer = refl;
+        in_numbers =
+            by_size tap_size s
+            (λ h. rw (tap_long h) (tap_same_numbers (field s 2 6) (field s 8 32) before (field s 0 2) (omega (arith, field_lt s 0 2))))
+            (λ h. rw (tap_short h) refl);
+      }
 
   -- ---- the rest
   pub tap_size-taken : tap_refusal s before ≡ 0 → tap_bytes_read s before ≡ 5

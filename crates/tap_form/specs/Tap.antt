@@ -4,8 +4,7 @@ use Rattle.meaning.specs.Limits.{most_lost}
 use Rattle.meaning.specs.Numbers.{given, first_of}
 use Rattle.meaning.specs.Calls.{unless_refused}
 use Rattle.fields.specs.Fields.{field, bits, form}
-use Rattle.record_form.specs.Record.{Reader, ReadBy, gap, end, taken, answered, broken, stamp_above}
-use Rattle.record_form.specs.declared.RecordRead.{RecordRead}
+use Rattle.record_form.specs.Record.{Reader, ReadBy, RecordRead, gap, end, taken, answered, broken, stamp_above}
 
 -- "records of 5 bytes"
 abbrev pub tap_size : ℕ

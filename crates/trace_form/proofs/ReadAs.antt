@@ -8,12 +8,12 @@ use lib.ListN.{length}
 use lib.Dec.{ltb}
 use borrow.Author.Tests.{ltb-true, ltb-false, eqb-true, not-false}
 use Rattle.fields.specs.Fields.{field}
-use Rattle.record_form.specs.declared.RecordRead.{RecordRead}
+use Rattle.fields.proofs.Laws.{field_lt}
 use Rattle.record_form.specs.Record
-use Rattle.record_form.specs.Record.{Reader, ReadBy, IsRead, RecordAnswer, case_by, case_of, numbers, read_refusal, record_answer, record_size, refused, taken}
+use Rattle.record_form.specs.Record.{Reader, ReadBy, IsRead, RecordAnswer, RecordRead, case_by, case_of, numbers, read_refusal, record_answer, record_size, refused, taken}
 use Rattle.trace_form.specs.Trace.{Entry, entry_call, kind_of, action_of, stamp_of}
 use Rattle.trace_form.specs.ReadAs.{ReadAs, case_as, read_as}
-use Rattle.record_form.proofs.Reading.{as_case, is_taken, read_fields, read_short, refusal_of, short, taken-answer, unbroken}
+use Rattle.record_form.proofs.Reading.{fields_same_numbers, is_taken, long, refusal_of, short, taken-answer, unbroken}
 
 -- What a reader answered is what the record stands for; with the answer's case put in, each by `refl`.
 pub read-case : {reader : Reader} {s : List ℕ} {before : ℕ} {r : RecordRead} → ReadBy reader s before r → read_as (reader s before) ≡ case_as r
@@ -74,11 +74,13 @@ refused-given a n e = go a.refusal a.kind e
 -- ---- the reader's answer to any bytes
 
 pub always_read : (s : List ℕ) (before : ℕ) → IsRead s before (case_of (record_answer s before))
-always_read s before = go (ltb (length s) record_size) (ltb-true (length s) record_size) (ltb-false (length s) record_size)
+unfolding case_by
+always_read s before = record { answer = refl; in_numbers = go (ltb (length s) record_size) (ltb-true (length s) record_size) (ltb-false (length s) record_size) }
   where
-    go : (b : Bool) → (b ≡ true → length s < record_size) → (b ≡ false → record_size ≤ length s) → IsRead s before (case_of (record_answer s before))
-    go true t f = as_case (read_short s before (t refl))
-    go false t f = as_case (read_fields s before (field s 0 2) (field s 2 6) (field s 8 40) _ (f refl) refl refl refl refl)
+    go : (b : Bool) → (b ≡ true → length s < record_size) → (b ≡ false → record_size ≤ length s)
+        → numbers (case_of (record_answer s before)) ≡ record_answer s before
+    go true t f = rw (short s before (t refl)) refl
+    go false t f = rw (long s before (f refl)) (fields_same_numbers (field s 0 2) (field s 2 6) (field s 8 40) before (omega (arith, field_lt s 0 2)))
 
 -- an end record's stamp is the one before
 pub end-stamp : (s : List ℕ) (before action stamp : ℕ) → record_answer s before ≡ taken Record.end action stamp → stamp ≡ before

@@ -1,9 +1,8 @@
--- `record_form::to_be_broken` meets its contract.
-use mathlib.Core.Path.{refl, sym, ◌∙◌, ap₂}
+-- `record_form::is_broken` meets its contract.
+use Rattle.std.proofs.Common.{sym, ◌∙◌, refl, ap₂, arith}
 use mathlib.Core.Bool.{◌||◌}
-use native.Mathlib.Omega.{arith}
 use Rattle.record_form.proofs.Rules.{broken-none, broken-end, broken-kind, is_0, not_0}
-use Rattle.record_form.proofs.to_be_broken.Goals as goal
+use Rattle.record_form.proofs.is_broken.Goals as goal
 
 pub returns-in-0-to-2 : goal.returns-in-0-to-2
 returns-in-0-to-2 c = sym (broken-none _ _ _ (omega arith))
