@@ -3,6 +3,7 @@ use Prim.Native.Nat.{ℕ, ◌+◌, ◌-◌, ◌≤◌, ◌<◌}
 use mathlib.Core.Path.{◌≡◌, refl, sym, ◌∙◌, ap, subst}
 use mathlib.Core.Bool.{Bool, true, false, cond}
 use mathlib.Core.List.{List, []}
+use Rattle.std.specs.Prelude.{Result, Ok, Err}
 use native.Mathlib.Nat.{add-zero}
 use lib.ListN.{length}
 use lib.Dec.{ltb}
@@ -26,17 +27,23 @@ use Rattle.held.specs.Held.{Closes}
 use Rattle.cuts.specs.Steps.{line_of, front_after, front_fresh, front_none, front_says, verdict_by, refusal_by, told_by, says}
 use Rattle.cuts.specs.Fronts.{with_cut, front_of, Holds}
 use Rattle.cuts.proofs.Lines.{open_at-output, open_at-input, holds-one}
-use Rattle.session_record.specs.declared.Reply.{Reply}
-use Rattle.session_record.specs.declared.Answer.{Answer}
-use Rattle.session_record.specs.Step.{answer_of}
-use Rattle.session_record.specs.Lent.{Memory, memory, held_in, Ready, Advanced, LineTaken}
+use Rattle.outcomes.specs.Numbers.{refusal_number, verdict_meant}
+use Rattle.outcomes.specs.declared.Refusal.{Refusal}
+use Rattle.outcomes.specs.declared.Verdict.{Verdict as Told-verdict}
+use Rattle.outcomes.specs.declared.Verdict.TheVariants.{Blind}
+use Rattle.outcomes.proofs.Same.{refusal_not_0}
+use Rattle.session_record.specs.declared.Told.{Told}
+use Rattle.session_record.specs.Step.{answer_in, answer_of}
+use Rattle.session_record.specs.Lent.{Memory, memory, held_in, Ready, Advanced}
+use Rattle.answers.specs.declared.Reply.{Reply}
+use Rattle.answers.specs.Taken.{LineTaken}
 use Rattle.session_record.proofs.Fit.{Fit}
 use Rattle.session_record.proofs.Ready.{blind-ready, open_ready, call-refused, call-taken, taken-fits}
 use Rattle.answers.proofs.Lines.{Comes, line_skipped, line_first, line-next, line_crowded}
 
 -- The call leads to these rows and what is given back beside them.
 abbrev pub Leads : Memory → Call → List (List ℕ) → Reply → Type 0
-Leads m k rows r = Advanced m k r.answer (memory m.property rows r.status)
+Leads m k rows r = Advanced m k (answer_in (Ok r.told)) (memory m.property rows r.status)
 
 module _ (m : Memory) (ready : Ready m) where
   abbrev p : Property
@@ -52,15 +59,15 @@ module _ (m : Memory) (ready : Ready m) where
   front_if b e = ap (λ (x : Bool). cond x (front_none p) own) e
 
   -- A call refused.
-  pub refused_leads : (k : Call) (n : ℕ) → refusal_by p c k ≡ n → (n ≡ 0 → ⊥) → (r : Reply) → r ≡ record { answer = answer_of (Calls.refused n); status = m.status }
-      → Leads m k m.rows r
-  refused_leads k n e h r q = subst (Leads m k m.rows) (sym q) (call-refused m ready k n e h)
+  pub refused_leads : (k : Call) (refusal : Refusal) → refusal_by p c k ≡ refusal_number refusal → Advanced m k (answer_in (Err refusal)) m
+  refused_leads k refusal e = call-refused m ready k (refusal_number refusal) e (refusal_not_0 refusal)
 
   -- A call after which no run is open: the rows are as they were.
   blind_leads : (k : Call) (clock : Calls.Clock) → clock.is_blind ≡ true → Comes p c k (record { clock = clock; front = front_none p })
-      → (a : Answer) → a ≡ answer_of (told_by p c k) → (r : Reply) → r ≡ record { answer = a; status = record { span = none; clock = stored_clock clock } }
+      → (t : Told) → answer_in (Ok t) ≡ answer_of (told_by p c k) → (r : Reply) → r ≡ record { told = t; status = record { span = none; clock = stored_clock clock } }
       → Leads m k m.rows r
-  blind_leads k clock b w a told r q = subst (Leads m k m.rows) (sym q) (call-taken m ready k a after refl w.none (w.taken ∙ held) told is_ready)
+  blind_leads k clock b w t told r q =
+      subst (Leads m k m.rows) (sym q) (call-taken m ready k (answer_in (Ok t)) after refl w.none (w.taken ∙ held) told is_ready)
     where
       after : Memory
       after = memory p m.rows (record { span = none; clock = stored_clock clock })
@@ -85,17 +92,17 @@ module _ (m : Memory) (ready : Ready m) where
 
     -- a line skipped
     pub skipped_leads : c.clock.is_blind ≡ true → beyond (meant p) c.clock stamp ≡ false → (clock : Clock) → clock ≡ stored_clock (ticked c.clock l true) → (r : Reply)
-        → r ≡ record { answer = record { refusal = 0; verdict = 3; open_count = 0 }; status = record { span = none; clock = clock } } → Leads m k m.rows r
+        → r ≡ record { told = record { verdict = Blind; open_count = 0 }; status = record { span = none; clock = clock } } → Leads m k m.rows r
     skipped_leads e far clock t r q =
         let w = line_skipped p c output action stamp n number zero e far in
         blind_leads k (ticked c.clock l true) refl w _ (comes_told _ w) r
-        (q ∙ ap (λ (x : Clock). record { answer = record { refusal = 0; verdict = 3; open_count = 0 }; status = record { span = none; clock = x } }) t)
+        (q ∙ ap (λ (x : Clock). record { told = record { verdict = Blind; open_count = 0 }; status = record { span = none; clock = x } }) t)
 
     -- a line of a run, taken
     run_leads : (f : Front Lengths) → Comes p c k (record { clock = ticked c.clock l false; front = f }) → (clock : Clock) → clock ≡ stored_clock (ticked c.clock l false)
         → (rows : List (List ℕ)) (r : Reply) → LineTaken p f clock rows r → Leads m k rows r
     run_leads f w clock t rows r y =
-        call-taken m ready k r.answer (memory p rows r.status) refl w.none (w.taken ∙ held) (y.answered ∙ comes_told _ w)
+        call-taken m ready k (answer_in (Ok r.told)) (memory p rows r.status) refl w.none (w.taken ∙ held) (y.answered ∙ comes_told _ w)
         (open_ready (memory p rows r.status) y.holds.usable (ap (λ (x : Clock). x.blind) stamped) (subst (Fit p) (w.taken ∙ held) (taken-fits m ready k w.none)))
       where
         stamped : r.status.clock ≡ stored_clock (ticked c.clock l false)
@@ -146,20 +153,20 @@ module _ (m : Memory) (ready : Ready m) where
     abbrev g : Call
     g = mark_at lost stamp
 
-    mark_leads : (v : ℕ) → v ≡ verdict_number (verdict_by p c) → (r : Reply)
-        → r ≡ record { answer = record { refusal = 0; verdict = v; open_count = 0 }; status = record { span = none; clock = clock } } → Leads m g m.rows r
+    mark_leads : (v : Told-verdict) → verdict_meant v ≡ verdict_by p c → (r : Reply)
+        → r ≡ record { told = record { verdict = v; open_count = 0 }; status = record { span = none; clock = clock } } → Leads m g m.rows r
     mark_leads v e r q =
         blind_leads g (marked c.clock (record { lost = lost; stamp = stamp })) refl (record { none = sym number ∙ zero; taken = refl }) _
-        (ap (λ (x : ℕ). record { refusal = 0; verdict = x; open_count = 0 }) e) r
-        (q ∙ ap (λ (x : Clock). record { answer = record { refusal = 0; verdict = v; open_count = 0 }; status = record { span = none; clock = x } }) t)
+        (ap (λ (x : Verdict). record { refusal = 0; verdict = verdict_number x; open_count = 0 }) e) r
+        (q ∙ ap (λ (x : Clock). record { told = record { verdict = v; open_count = 0 }; status = record { span = none; clock = x } }) t)
 
     verdict_if : (b : Bool) → c.clock.is_blind ≡ b → cond b Verdict.blind (front_says p (cond b (front_none p) own)) ≡ verdict_by p c
     verdict_if b e = ap (λ (x : Bool). cond x Verdict.blind (front_says p (cond x (front_none p) own))) (sym e)
 
     pub marked-blind : c.clock.is_blind ≡ true → (r : Reply)
-        → r ≡ record { answer = record { refusal = 0; verdict = 3; open_count = 0 }; status = record { span = none; clock = clock } } → Leads m g m.rows r
-    marked-blind e r q = mark_leads 3 (ap verdict_number (verdict_if true e)) r q
+        → r ≡ record { told = record { verdict = Blind; open_count = 0 }; status = record { span = none; clock = clock } } → Leads m g m.rows r
+    marked-blind e r q = mark_leads Blind (verdict_if true e) r q
 
-    pub marked_open : c.clock.is_blind ≡ false → (v : ℕ) → v ≡ verdict_number (front_says p own) → (r : Reply)
-        → r ≡ record { answer = record { refusal = 0; verdict = v; open_count = 0 }; status = record { span = none; clock = clock } } → Leads m g m.rows r
-    marked_open e v h r q = mark_leads v (h ∙ ap verdict_number (verdict_if false e)) r q
+    pub marked_open : c.clock.is_blind ≡ false → (v : Told-verdict) → verdict_meant v ≡ front_says p own → (r : Reply)
+        → r ≡ record { told = record { verdict = v; open_count = 0 }; status = record { span = none; clock = clock } } → Leads m g m.rows r
+    marked_open e v h r q = mark_leads v (h ∙ verdict_if false e) r q

@@ -9,7 +9,7 @@ ghost use Rattle.rows.specs.Rows.{none, Room};
 ghost use Rattle.held.specs.Held.{Closes};
 ghost use Rattle.cuts.specs.Steps.{line_of, front_after};
 ghost use Rattle.cuts.specs.Fronts.{with_cut, front_of, Usable};
-ghost use Rattle.run_line.specs.Taken.{LineTaken};
+ghost use Rattle.answers.specs.Taken.{LineTaken};
 
 use answers::Reply;
 use clock::Clock;
