@@ -4,8 +4,11 @@
 ghost use Rattle.std.specs.Prelude.{◌≡◌, cond, ◌||◌, [], ◌∷◌, ◌<◌, length, ltb, MatchOption};
 ghost use Rattle.std.specs.List.{list_any};
 ghost use Rattle.name_list.specs.Names.{zero_bit_set, size_outside, entry_size, list_broken};
+ghost use Rattle.outcomes.specs.Numbers.{refusal_in};
 ghost use Rattle.name_list.specs.Read.{list_size, list_refusal};
 ghost use Rattle.name_list.specs.Front.{IsFront, breaks_rule};
+
+use outcomes::Refusal;
 
 // "A list above 8,192 bytes counts as broken."
 pub const MOST_BYTES: usize = 8192;
@@ -102,16 +105,20 @@ pub fn size(first: u8, second: u8) -> usize
     usize::from(u16::from_be_bytes([first, second]))
 }
 
-// The refusal of a list, the site's or the release's, by what was read of the two bytes before it and of the list; 0 for none.
+// The refusal of a list, the site's or the release's, by what was read of the two bytes before it and of the list.
 #[tactic(auto, unfolding(crate::specs::Read::list_refusal))]
-pub fn refused(of_release: bool, head: &[u8], list: &[u8]) -> u64
-    ensures { result ≡ list_refusal (cond of_release 12 11) head.now list.now }
+pub fn refused(of_release: bool, head: &[u8], list: &[u8]) -> Result<(), Refusal>
+    ensures { refusal_in result ≡ list_refusal (cond of_release 12 11) head.now list.now }
 {
     if head.len() < 2 || list.len() < size(head[0], head[1]) {
-        return 7;
+        return Err(Refusal::TooShort);
     }
     if !broken(list) {
-        return 0;
+        return Ok(());
     }
-    if of_release { 12 } else { 11 }
+    Err(if of_release {
+        Refusal::ReleaseList
+    } else {
+        Refusal::SiteList
+    })
 }

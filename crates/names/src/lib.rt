@@ -3,25 +3,27 @@
 
 ghost use Rattle.std.specs.Prelude.{◌≡◌, false, ◌≤◌};
 ghost use Rattle.name_list.specs.Names.{first_byte, list_broken, entries};
+ghost use Rattle.outcomes.specs.Numbers.{refusal_in};
 ghost use Rattle.names.specs.Lookup.{names_refusal, name_span, wanted, asked, choice, Part, Handed};
 
 use limits::LAST_ACTION;
+use outcomes::Refusal;
 
-// The refusal of a lookup, 0 for none.
+// The refusal of a lookup.
 #[tactic(auto, unfolding(crate::specs::Lookup::names_refusal))]
-pub fn refused(site: &[u8], release: &[u8], output: bool, action: u8) -> u64
-    ensures { result ≡ names_refusal site.now release.now action }
+pub fn refused(site: &[u8], release: &[u8], output: bool, action: u8) -> Result<(), Refusal>
+    ensures { refusal_in result ≡ names_refusal site.now release.now action }
 {
     if LAST_ACTION < action {
-        return 3;
+        return Err(Refusal::Number);
     }
     if name_list::broken(site) {
-        return 11;
+        return Err(Refusal::SiteList);
     }
     if name_list::broken(release) {
-        return 12;
+        return Err(Refusal::ReleaseList);
     }
-    0
+    Ok(())
 }
 
 // The name for this first byte in a list that is not broken: an empty part at its end where there is none.
@@ -66,7 +68,7 @@ fn first_byte(output: bool, action: u8) -> u8
 pub fn name<'a>(site: &'a [u8], release: &'a [u8], output: bool, action: u8) -> &'a [u8]
     ensures { Handed (choice site.now release.now output action) site.entry release.entry result }
 {
-    if refused(site, release, output, action) != 0 {
+    if refused(site, release, output, action).is_err() {
         return &release[release.len()..];
     }
     found(site, release, first_byte(output, action))

@@ -46,12 +46,8 @@ pub fn record_of(kind: u64, action: u8, less: u64, before: u64) -> Result<Record
         1 => Ok(Record::Output(action, stamp_behind(before, less)?)),
         2 => Ok(Record::Gap(action, stamp_behind(before, less)?)),
         // 3: two bits hold no other.
-        _ => {
-            if action != 0 || less != 0 {
-                return Err(Refusal::Broken);
-            }
-            Ok(Record::End(stamp_behind(before, less)?))
-        }
+        _ if action != 0 || less != 0 => Err(Refusal::Broken),
+        _ => Ok(Record::End(stamp_behind(before, less)?)),
     }
 }
 
@@ -93,15 +89,8 @@ fn to_be_broken(kind: u8, action: u8, later: bool) -> bool
     ensures { result ≡ broken kind action later }
 {
     match kind {
-        0 => false,
-        1 => false,
-        2 => false,
-        3 => {
-            if action != 0 {
-                return true;
-            }
-            later
-        }
+        0..=2 => false,
+        3 => action != 0 || later,
         _ => true,
     }
 }
@@ -134,8 +123,8 @@ fn put_record(kind: u8, action: u8, less: u64, buf: &mut [u8])
     ensures { buf.new ≡ record_form kind action less ++ drop record_size buf.old }
 {
     let mut list = [0u8; 48];
-    fields::put_field(&mut list, 0, 2, fields::wide(kind));
-    fields::put_field(&mut list, 2, 6, fields::wide(action));
+    fields::put_field(&mut list, 0, 2, u64::from(kind));
+    fields::put_field(&mut list, 2, 6, u64::from(action));
     fields::put_field(&mut list, 8, 40, less);
     fields::pack(&list, RECORD_SIZE, buf);
 }

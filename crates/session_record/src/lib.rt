@@ -7,9 +7,8 @@ ghost use Rattle.std.specs.Prelude.{◌+◌, ◌≤◌, ◌<◌, ◌≡◌, cond
 ghost use Rattle.rows.specs.declared.Span.{Span};
 ghost use Rattle.rows.specs.Rows.{Within, Room};
 ghost use Rattle.session_record.specs.Record.{rows_of, out_of_range};
-ghost use Rattle.session_record.specs.Lent.{record_in, of_arrays, packed_pair, packed_of};
+ghost use Rattle.session_record.specs.Lent.{record_in, of_arrays, packed_pair, packed_of, blank};
 ghost use Rattle.session_record.specs.Loan.{memory_in};
-ghost use Rattle.session_record.specs.Lent;
 
 pub use loan::Lent;
 
@@ -189,7 +188,7 @@ pub fn made(lent: &Lent<'_>) -> Session
 
 // A record with no open input, its one cut as given.
 pub fn blank(p: Property, first: Cut) -> Session
-    ensures { result ≡ Lent.blank p first }
+    ensures { result ≡ blank p first }
 {
     let mut masks = [0u64; 65];
     let mut armed = [0u64; 65];
