@@ -18,10 +18,10 @@ returns-then-held-p c =
           c.joined.ensures.set
           ∙ ap₂ either
           (direct.ensures.set a.stamp
-          ∙ ap (λ (b : Bool). cond b (moved (meant a.p) (set_of a.after) (line_of true a.action a.stamp)) none_of)
-          (sym (le-leb (a.held + 2 * a.p.lb) a.stamp c.if-held-p.true)))
+          ∙ ap (λ (b : Bool). cond b (moved (meant a.steps.now.property) (set_of a.after) (line_of true a.action a.stamp)) none_of)
+          (sym (le-leb (a.held + 2 * a.steps.now.property.lb) a.stamp c.if-held-p.true)))
           (c.moved-behind.ensures.set a.held);
-      fits = c.joined.ensures.fits a.p direct.ensures.fits c.moved-behind.ensures.fits;
+      fits = c.joined.ensures.fits a.steps.now.property direct.ensures.fits c.moved-behind.ensures.fits;
     }
 
 pub returns : goal.returns
@@ -30,8 +30,8 @@ returns c =
     record {
       set =
           c.moved-behind.ensures.set a.held
-          ∙ ap (λ (b : Bool). either (cond b (moved (meant a.p) (set_of a.after) (line_of true a.action a.stamp)) none_of)
-          (moved (meant a.p) (set_of a.before) (line_of false a.input a.held)))
-          (sym (lt-leb (a.held + 2 * a.p.lb) a.stamp c.if-held-p.false));
+          ∙ ap (λ (b : Bool). either (cond b (moved (meant a.steps.now.property) (set_of a.after) (line_of true a.action a.stamp)) none_of)
+          (moved (meant a.steps.now.property) (set_of a.before) (line_of false a.input a.held)))
+          (sym (lt-leb (a.held + 2 * a.steps.now.property.lb) a.stamp c.if-held-p.false));
       fits = c.moved-behind.ensures.fits;
     }
