@@ -39,9 +39,10 @@ fn waits(from: Reached, k: usize, output: bool) -> bool
     ensures { result ≡ Judged.waits from k output }
 {
     if output {
-        return from.output <= k;
+        from.output <= k
+    } else {
+        from.input <= k
     }
-    from.input <= k
 }
 
 // The verdict after the line at place k: another than before was first told there.

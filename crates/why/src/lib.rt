@@ -15,6 +15,7 @@ use table::Steps;
 
 // The orders of a run: for clear the first explanation in the first two lists, for suspect the first that breaks there and the first
 // that does not in the other two, for certain the first that breaks.
+// The run stays three lists: their refusal 7, and the theorems and tests that name it, may not change.
 pub fn explain(
     p: Property,
     output: &[bool],
