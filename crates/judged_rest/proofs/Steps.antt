@@ -8,8 +8,8 @@ use Rattle.meaning.specs.Calls.{Call}
 use Rattle.meaning.proofs.Refusals.{unless_taken, unless_kept}
 use Rattle.property.specs.Meant.{meant}
 use Rattle.cuts.specs.Steps.{next_by, answer_by}
-use Rattle.session_record.specs.declared.Answer.{Answer}
-use Rattle.session_record.specs.declared.Stepped.{Stepped}
+use Rattle.session_record.specs.Step.{Answer}
+use Rattle.session_record.specs.Step.{Stepping}
 use Rattle.session_record.specs.Record.{cuts_of}
 use Rattle.session_record.specs.Step.{answer_of}
 use Rattle.session_record.specs.Lent.{Memory, held_in, record_in, Ready, Advanced}
@@ -50,12 +50,12 @@ module _ (m : Memory) (ready : Ready m) (c : Call) (a : Answer) (after : Memory)
   over = sym adv.stepped ∙ step_same m.property good (ready_fit m ready) c
 
   pub call-answer : a ≡ answer_of (answer_by m.property (held_in m) c)
-  call-answer = ap (λ (r : Stepped). r.answer) over
+  call-answer = ap (λ (r : Stepping). r.answer) over
 
   pub call-cuts : held_in after ≡ next_by m.property (held_in m) c
   call-cuts =
       sym (ready-stands after adv.ready)
-      ∙ ap (λ (r : Stepped). cuts_of r.session) over
+      ∙ ap (λ (r : Stepping). cuts_of r.session) over
       ∙ cuts_back m.property good (next_fit m.property good (ready_fit m ready) c)
 
 module _ (m : Memory) (ready : Ready m) (from : Reached) (output : Bool) (l : Line) (k : ℕ) (before : Reason)
