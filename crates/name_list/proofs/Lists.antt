@@ -1,16 +1,17 @@
 -- The laws of a list's entries, one entry at a time.
-use Prim.Native.Nat.{ℕ, zero, suc, ◌+◌, ◌-◌, ◌/◌, ◌%◌, ◌≤◌, ◌<◌}
+use Prim.Native.Nat.{ℕ, zero, suc, ◌-◌, ◌/◌, ◌%◌, ◌≤◌, ◌<◌}
 use mathlib.Core.Path.{◌≡◌, refl, sym, ◌∙◌, ap, ap₂}
 use mathlib.Core.Bool.{Bool, true, false, ◌&&◌, ◌||◌, cond, true≢false}
 use mathlib.Core.List.{List, [], ◌∷◌}
-use native.Mathlib.Nat.{add-zero}
 use native.Mathlib.Omega.{arith}
-use lib.ListN.{length, take, drop, get_or, length-drop, drop_of_length-le}
+use lib.ListN.{length, take, drop, length-drop}
 use lib.Dec.{ltb}
-use lib.Seq.{length-take-le, take_all, drop-cons, drop-drop, get_or-drop}
-use borrow.Author.Tests.{ltb-false, eqb-true, lt-ltb, le-ltb, not-false}
+use lib.Seq.{length-take-le, take_all}
+use borrow.Author.Tests.{ltb-true, ltb-false, eqb-true, lt-ltb, le-ltb, not-false}
 use Rattle.laws.proofs.Tests.{or_split}
-use Rattle.name_list.specs.Names.{first, name_size, entry_size, name_read, any_outside, zero_bit_set, size_outside, entry_broken, entries_broken, entry_read, entries_read}
+use Rattle.std.specs.List.{list_any}
+use Rattle.name_list.specs.Names.{first, name_size, entry_size, name_read, any_outside, zero_bit_set, size_outside, entry_broken, entries_broken, list_broken, entry_read, entries_read}
+use Rattle.name_list.specs.Front.{breaks_rule}
 
 pub broken_step : (most least : ℕ) (l : List ℕ) → 0 < length l
     → entries_broken (suc most) least l ≡ entry_broken least l || entries_broken most (suc (first l)) (drop (entry_size l) l)
@@ -87,55 +88,69 @@ or-next {a} {b} e h = h ∙ sym (ap (λ (t : Bool). t || b) e)
 
 -- ---- the bytes of a name
 
-pub outside_step : (l : List ℕ) (i : ℕ) → i < length l
-    → any_outside (drop i l) ≡ (ltb (get_or l i 0) 33 || ltb 126 (get_or l i 0)) || any_outside (drop (suc i) l)
-outside_step l i h = ap any_outside (drop-cons l i 0 h) ∙ cons
-  where
-    cons : any_outside (get_or l i 0 ∷ drop (suc i) l) ≡ (ltb (get_or l i 0) 33 || ltb 126 (get_or l i 0)) || any_outside (drop (suc i) l)
-    cons = unfold any_outside in refl
+pub outside_any : (l : List ℕ) → any_outside l ≡ list_any (λ b. ltb b 33 || ltb 126 b) l
+unfolding any_outside
+outside_any [] = refl
+outside_any (b ∷ rest) = ap (λ (t : Bool). (ltb b 33 || ltb 126 b) || t) (outside_any rest)
 
-pub outside-end : (l : List ℕ) (i : ℕ) → length l ≤ i → any_outside (drop i l) ≡ false
-outside-end l i h = ap any_outside (drop_of_length-le l h) ∙ (unfold any_outside in refl)
+-- ---- the entry at the front
+
+-- The rules of an entry that stands apart are those of its bytes.
+pub front-rules : (least : ℕ) (l : List ℕ) → entry_size l ≤ length l → breaks_rule least (first l) (name_read l) ≡ entry_broken least l
+unfolding entry_broken
+front-rules least l h =
+    ap₂ (λ (n : ℕ) (t : Bool). zero_bit_set (first l) || (ltb (first l) least || (size_outside n || t))) (length-take-le (name_size l) (drop 2 l) (omega (arith, length-drop 2 l))) (sym (outside_any (name_read l)))
+    ∙ or-next (le-ltb (length l) (entry_size l) h) refl
+
+pub cut_short : (least : ℕ) (l : List ℕ) → length l < entry_size l → entry_broken least l ≡ true
+unfolding entry_broken
+cut_short least l h = sym (or_here _ (lt-ltb (length l) (entry_size l) h))
+
+-- ---- what a check has left
+
+-- These bytes of the list decide, and there are no more entries in them than this.
+pub record Judged (list : List ℕ) (least : ℕ) (rest : List ℕ) : Type 0 where
+  pub most : ℕ
+  pub enough : length rest ≤ most
+  pub same : entries_broken most least rest ≡ entries_broken (length list) 0 list
+
+pub judged_all : (list : List ℕ) → Judged list 0 list
+judged_all list = record { most = length list; enough = omega arith; same = refl }
+
+module _ (list : List ℕ) (least : ℕ) (rest : List ℕ) (left : Judged list least rest) where
+  pub judged_here : 0 < length rest → entry_broken least rest ≡ true → true ≡ entries_broken (length list) 0 list
+  judged_here h e = go left.most ∙ left.same
+    where
+      go : (most : ℕ) → true ≡ entries_broken most least rest
+      go zero = unfold entries_broken in (sym (lt-ltb 0 (length rest) h))
+      go (suc most) = or_here _ e ∙ sym (broken_step most least rest h)
+
+  pub judged_on : 0 < length rest → entry_broken least rest ≡ false → Judged list (suc (first rest)) (drop (entry_size rest) rest)
+  judged_on h e = go left.most left.enough left.same
+    where
+      go : (most : ℕ) → length rest ≤ most → entries_broken most least rest ≡ entries_broken (length list) 0 list → Judged list (suc (first rest)) (drop (entry_size rest) rest)
+      go zero k same = absurd (omega arith)
+      go (suc most) k same =
+          record {
+            most = most;
+            enough = omega (arith, length-drop (entry_size rest) rest);
+            same = or-next e refl ∙ sym (broken_step most least rest h) ∙ same;
+          }
+
+  -- where no entry can be split off, what is left is cut short, or nothing
+  pub judged-end : length rest < entry_size rest → ltb 0 (length rest) ≡ entries_broken (length list) 0 list
+  judged-end h = go (ltb 0 (length rest)) (ltb-true 0 (length rest)) (ltb-false 0 (length rest))
+    where
+      go : (t : Bool) → (t ≡ true → 0 < length rest) → (t ≡ false → length rest ≤ 0) → t ≡ entries_broken (length list) 0 list
+      go true y n = judged_here (y refl) (cut_short least rest h)
+      go false y n = sym (broken-end left.most least rest (n refl)) ∙ left.same
+
+-- a list that is not too long
+pub by_entries : (list : List ℕ) (t : Bool) → length list ≤ 8192 → t ≡ entries_broken (length list) 0 list → t ≡ list_broken list
+unfolding list_broken
+by_entries list t h e = or-next (le-ltb 8192 (length list) h) e
 
 -- ---- a list from byte i on
 
 pub part-all : (list : List ℕ) (i : ℕ) → take (length list - i) (drop i list) ≡ drop i list
 part-all list i = take_all (length list - i) (drop i list) (omega (arith, length-drop i list))
-
--- the entry at the front breaks a rule
-pub broken_here : (most least : ℕ) (l : List ℕ) → 0 < length l → entry_broken least l ≡ true → true ≡ entries_broken most least l
-broken_here zero least l h e = unfold entries_broken in (sym (lt-ltb 0 (length l) h))
-broken_here (suc most) least l h e = or_here _ e ∙ sym (broken_step most least l h)
-
-module _ (list : List ℕ) (i : ℕ) (h : i < length list) where
-  pub some_left : 0 < length (drop i list)
-  some_left = omega (arith, length-drop i list)
-
-  pub first-at : first (drop i list) ≡ get_or list i 0
-  first-at = get_or-drop i list 0 0 ∙ ap (λ (n : ℕ). get_or list n 0) (add-zero i)
-
-  pub size-at : name_size (drop i list) ≡ get_or list (i + 1) 0
-  size-at = get_or-drop i list 1 0
-
-  pub behind-at : drop (entry_size (drop i list)) (drop i list) ≡ drop (i + (2 + get_or list (i + 1) 0)) list
-  behind-at = drop-drop (entry_size (drop i list)) i list ∙ ap (λ (n : ℕ). drop (i + (2 + n)) list) size-at
-
-  pub fits-at : {least : ℕ} → Whole least (drop i list) → i + (2 + get_or list (i + 1) 0) ≤ length list
-  fits-at w = omega (arith, w.there, size-at, length-drop i list)
-
-  -- What is left to check behind an entry that breaks no rule.
-  pub record On (most least : ℕ) : Type 0 where
-    pub less : ℕ
-    pub fits : i + (2 + get_or list (i + 1) 0) ≤ length list
-    pub enough : length list ≤ i + (2 + get_or list (i + 1) 0) + less
-    pub same : entries_broken less (suc (get_or list i 0)) (drop (i + (2 + get_or list (i + 1) 0)) list) ≡ entries_broken most least (drop i list)
-
-  pub broken_on : (most least : ℕ) → length list ≤ i + most → entry_broken least (drop i list) ≡ false → On most least
-  broken_on zero least l e = absurd (omega arith)
-  broken_on (suc most) least l e =
-      record {
-        less = most;
-        fits = fits-at (entry_whole least (drop i list) e);
-        enough = omega arith;
-        same = ap₂ (λ (a : ℕ) (b : List ℕ). entries_broken most (suc a) b) (sym first-at) (sym behind-at) ∙ or-next e refl ∙ sym (broken_step most least (drop i list) some_left);
-      }

@@ -24,13 +24,6 @@ pub number_is : (site release : List ℕ) (action : ℕ) (a b c : Bool) → ltb 
 unfolding names_refusal
 number_is site release action a b c ea eb ec = λ i. by (ea i) (eb i) (ec i)
 
--- the first that holds, whatever the later ones
-pub number_3 : (site release : List ℕ) (action : ℕ) → ltb 63 action ≡ true → 3 ≡ names_refusal site release action
-number_3 site release action e = sym (number_is site release action true (list_broken site) (list_broken release) e refl refl)
-
-pub number_11 : (site release : List ℕ) (action : ℕ) → ltb 63 action ≡ false → list_broken site ≡ true → 11 ≡ names_refusal site release action
-number_11 site release action a e = sym (number_is site release action false true (list_broken release) a e refl)
-
 -- none holds
 pub record Taken (site release : List ℕ) (action : ℕ) : Type 0 where
   pub action_fits : action ≤ 63

@@ -5,14 +5,17 @@ use mathlib.Core.Bool.{Bool, true, false, cond}
 use mathlib.Core.List.{List, [], ◌∷◌}
 use native.Mathlib.Nat.{zero-add, add-zero}
 use native.Mathlib.Omega.{arith}
-use lib.ListN.{length, take, drop, get_or, length-drop}
+use lib.ListN.{length, take, drop, length-drop}
+use lib.Seq.{drop-drop}
 use lib.Dec.{ltb, eqb}
 use denote.Ref.{Bor}
 use borrow.Author.Tests.{ltb-true, ltb-false, eq-eqb, ne_eqb}
-use Rattle.name_list.specs.Names.{Entry, first_byte, entry_form, first, entry_size, entry_read, entries_broken, list_broken, entries_read, entries}
+use Rattle.name_list.specs.Names.{Entry, first_byte, entry_form, first, name_size, entry_size, entry_read, entries_broken, list_broken, entries_read, entries}
+use Rattle.name_list.specs.declared.Front.{Front}
+use Rattle.name_list.specs.Front.{IsFront}
 use Rattle.names.specs.Lookup.{Span, name_span, Part}
 use Rattle.name_list.proofs.Good.{byte_read, good_entries}
-use Rattle.name_list.proofs.Lists.{Good, good_step, read_step, read-end, name-long, some_left, first-at, size-at, behind-at, fits-at}
+use Rattle.name_list.proofs.Lists.{Good, good_step, read_step, read-end, name-long}
 
 -- A part, so many bytes on.
 abbrev pub shifted : ℕ → Span → Span
@@ -95,66 +98,66 @@ module _ (list : List ℕ) (wanted i : ℕ) (left : Left list wanted i) where
   abbrev l : List ℕ
   l = drop i list
 
-  -- nothing is left
-  pub left_end : length list ≤ i → name_span (entries list) wanted ≡ record { start = i; size = 0 }
-  left_end h =
-      left.span
-      ∙ ap (λ (es : List Entry). shifted i (name_span es wanted)) (read-end left.most l (omega (arith, length-drop i list)))
-      ∙ none
+  -- no entry can be split off: nothing is left
+  pub left_end : i ≤ length list → length l < entry_size l → name_span (entries list) wanted ≡ record { start = length list; size = 0 }
+  left_end at h = go (ltb 0 (length l)) (ltb-true 0 (length l)) (ltb-false 0 (length l))
     where
-      none : shifted i (name_span [] wanted) ≡ record { start = i; size = 0 }
-      none = unfold name_span in (λ j. record { start = add-zero i j; size = 0 })
+      none : i ≡ length list → shifted i (name_span [] wanted) ≡ record { start = length list; size = 0 }
+      none same = unfold name_span in (λ j. record { start = (add-zero i ∙ same) j; size = 0 })
 
-  module _ (h : i < length list) where
-    step : Good left.most left.least l
-    step = good_step left.most left.least l (some_left list i h) left.good
-
-    pub left-fits : i + 2 + get_or list (i + 1) 0 ≤ length list
-    left-fits = omega (arith, fits-at list i h step.whole)
-
-    module _ (small : get_or list i 0 < 256) where
-      own : first_byte (entry_read l).action ≡ get_or list i 0
-      own = byte_read (first l) (omega (arith, first-at list i h)) step.whole.zero_bit ∙ first-at list i h
-
-      long : length (entry_read l).name ≡ get_or list (i + 1) 0
-      long = name-long left.least l step.whole ∙ size-at list i h
-
-      read : entries_read left.most l ≡ entry_read l ∷ entries_read step.less (drop (entry_size l) l)
-      read = ap (λ (n : ℕ). entries_read n l) step.counted ∙ read_step step.less l (some_left list i h)
-
-      by : (t : Bool) → eqb (get_or list i 0) wanted ≡ t
-          → name_span (entries list) wanted
-          ≡ shifted i (cond t (record { start = 2; size = get_or list (i + 1) 0 })
-          (shifted (2 + get_or list (i + 1) 0) (name_span (entries_read step.less (drop (entry_size l) l)) wanted)))
-      by t e =
+      go : (t : Bool) → (t ≡ true → 0 < length l) → (t ≡ false → length l ≤ 0) → name_span (entries list) wanted ≡ record { start = length list; size = 0 }
+      go true y n = absurd (omega (arith, (good_step left.most left.least l (y refl) left.good).whole.there))
+      go false y n =
           left.span
-          ∙ ap (λ (es : List Entry). shifted i (name_span es wanted)) read
-          ∙ ap (shifted i) (span_by (entry_read l) (entries_read step.less (drop (entry_size l) l)) wanted t (ap (λ (b : ℕ). eqb b wanted) own ∙ e))
-          ∙ ap₂ (λ (n m : ℕ). shifted i (cond t (record { start = 2; size = n })
-          (shifted m (name_span (entries_read step.less (drop (entry_size l) l)) wanted)))) long
-          (let a : length (entry_form (entry_read l)) ≡ 2 + get_or list (i + 1) 0 = omega (arith, long) in a)
+          ∙ ap (λ (es : List Entry). shifted i (name_span es wanted)) (read-end left.most l (n refl))
+          ∙ none (omega (arith, n refl, length-drop i list))
 
-      pub left_here : get_or list i 0 ≡ wanted → name_span (entries list) wanted ≡ record { start = i + 2; size = get_or list (i + 1) 0 }
-      left_here e = by true (eq-eqb (get_or list i 0) wanted e)
+  module _ (h : 0 < length l) (small : first l < 256) where
+    step : Good left.most left.least l
+    step = good_step left.most left.least l h left.good
 
-      pub left_on : (get_or list i 0 ≡ wanted → ⊥) → Left list wanted (i + 2 + get_or list (i + 1) 0)
-      left_on e =
-          let next : drop (entry_size l) l ≡ drop (i + 2 + get_or list (i + 1) 0) list =
-          behind-at list i h ∙ ap (λ (n : ℕ). drop n list) (let a : i + (2 + get_or list (i + 1) 0) ≡ i + 2 + get_or list (i + 1) 0 = omega arith in a) in
-          record {
-            most = step.less;
-            least = suc (first l);
-            good = ap (entries_broken step.less (suc (first l))) (sym next) ∙ step.behind;
-            span =
-                by false (ne_eqb (get_or list i 0) wanted e)
-                ∙ ap (λ (x : List ℕ). shifted i (shifted (2 + get_or list (i + 1) 0) (name_span (entries_read step.less x) wanted))) next
-                ∙ further (name_span (entries_read step.less (drop (i + 2 + get_or list (i + 1) 0) list)) wanted);
-          }
-        where
-          further : (p : Span) → shifted i (shifted (2 + get_or list (i + 1) 0) p) ≡ shifted (i + 2 + get_or list (i + 1) 0) p
-          further p =
-              let a : i + (2 + get_or list (i + 1) 0 + p.start) ≡ i + 2 + get_or list (i + 1) 0 + p.start = omega arith in
-              λ j. record { start = a j; size = p.size }
+    own : first_byte (entry_read l).action ≡ first l
+    own = byte_read (first l) small step.whole.zero_bit
+
+    long : length (entry_read l).name ≡ name_size l
+    long = name-long left.least l step.whole
+
+    abbrev later : List Entry
+    later = entries_read step.less (drop (entry_size l) l)
+
+    read : entries_read left.most l ≡ entry_read l ∷ later
+    read = ap (λ (n : ℕ). entries_read n l) step.counted ∙ read_step step.less l h
+
+    by : (t : Bool) → eqb (first l) wanted ≡ t
+        → name_span (entries list) wanted
+        ≡ shifted i (cond t (record { start = 2; size = name_size l }) (shifted (entry_size l) (name_span later wanted)))
+    by t e =
+        left.span
+        ∙ ap (λ (es : List Entry). shifted i (name_span es wanted)) read
+        ∙ ap (shifted i) (span_by (entry_read l) later wanted t (ap (λ (b : ℕ). eqb b wanted) own ∙ e))
+        ∙ ap₂ (λ (n m : ℕ). shifted i (cond t (record { start = 2; size = n }) (shifted m (name_span later wanted)))) long
+        (let a : length (entry_form (entry_read l)) ≡ entry_size l = omega (arith, long) in a)
+
+    pub left_here : first l ≡ wanted → name_span (entries list) wanted ≡ record { start = i + 2; size = name_size l }
+    left_here e = by true (eq-eqb (first l) wanted e)
+
+    pub left_on : (first l ≡ wanted → ⊥) → Left list wanted (i + entry_size l)
+    left_on e =
+        let next : drop (entry_size l) l ≡ drop (i + entry_size l) list = drop-drop (entry_size l) i list in
+        record {
+          most = step.less;
+          least = suc (first l);
+          good = ap (entries_broken step.less (suc (first l))) (sym next) ∙ step.behind;
+          span =
+              by false (ne_eqb (first l) wanted e)
+              ∙ ap (λ (x : List ℕ). shifted i (shifted (entry_size l) (name_span (entries_read step.less x) wanted))) next
+              ∙ further (name_span (entries_read step.less (drop (i + entry_size l) list)) wanted);
+        }
+      where
+        further : (p : Span) → shifted i (shifted (entry_size l) p) ≡ shifted (i + entry_size l) p
+        further p =
+            let a : i + (entry_size l + p.start) ≡ i + entry_size l + p.start = omega arith in
+            λ j. record { start = a j; size = p.size }
 
 -- ---- a part of a slice
 
@@ -162,3 +165,12 @@ pub part_at : (p : Span) (s r : Bor (List ℕ)) (start size : ℕ) → p ≡ rec
     → r.now ≡ take size (drop start s.now) → Part p s r
 part_at p s r start size e a b h =
     subst (λ (q : Span). Part q s r) (sym e) (record { place = λ i. (a i, b i); bytes = h })
+
+-- what is left of a list from a byte on, as a part of it
+abbrev pub left_of : Bor (List ℕ) → ℕ → Bor (List ℕ)
+left_of list at = record { ref_ptr = (list.ref_ptr.0, list.ref_ptr.1 + at); now = drop at list.now }
+
+pub front_at : (list s : Bor (List ℕ)) (at : ℕ) (f : Front) → s.ref_ptr.0 ≡ list.ref_ptr.0 → s.ref_ptr.1 ≡ list.ref_ptr.1 + at → s.now ≡ drop at list.now
+    → IsFront s f → IsFront (left_of list at) f
+front_at list s at f a b h front =
+    subst (λ (x : Bor (List ℕ)). IsFront x f) (λ i. record { ref_ptr = (a i, b i); now = h i }) front

@@ -8,6 +8,7 @@ ghost use Rattle.names.specs.Lookup.{names_refusal, name_span, wanted, asked, ch
 use limits::LAST_ACTION;
 
 // The refusal of a lookup, 0 for none.
+#[tactic(auto, unfolding(crate::specs::Lookup::names_refusal))]
 pub fn refused(site: &[u8], release: &[u8], output: bool, action: u8) -> u64
     ensures { result ≡ names_refusal site.now release.now action }
 {
@@ -28,16 +29,15 @@ fn lookup(list: &[u8], first: u8) -> &[u8]
     requires { list_broken list.now ≡ false }
     ensures { Part (name_span (entries list.now) first) list.entry result }
 {
-    let mut i = 0;
-    while i < list.len() {
-        let start = i + 2;
-        let end = start + fields::wide(list[i + 1]) as usize;
-        if fields::wide(list[i]) == fields::wide(first) {
-            return &list[start..end];
+    // By a byte index: of a slice that a loop changes, its invariant knows the bytes and not the place, which is promised here.
+    let mut at = 0;
+    while let Some(entry) = name_list::split_front(&list[at..]) {
+        if entry.first == first {
+            return entry.name;
         }
-        i = end;
+        at = list.len() - entry.rest.len();
     }
-    &list[i..]
+    &list[list.len()..]
 }
 
 // The name for this first byte, in two lists that are not broken.
@@ -46,10 +46,11 @@ pub fn found<'a>(site: &'a [u8], release: &'a [u8], first: u8) -> &'a [u8]
     ensures { Handed (asked (name_span (entries site.now) first) (name_span (entries release.now) first)) site.entry release.entry result }
 {
     let own = lookup(site, first);
-    if own.len() != 0 {
-        return own;
+    if own.is_empty() {
+        lookup(release, first)
+    } else {
+        own
     }
-    lookup(release, first)
 }
 
 // The first byte of an entry for this action.
@@ -57,10 +58,7 @@ fn first_byte(output: bool, action: u8) -> u8
     requires { action ≤ 63 }
     ensures { result ≡ first_byte (wanted output action) }
 {
-    if output {
-        return 128 + action;
-    }
-    action
+    if output { 128 + action } else { action }
 }
 
 // The name of an action, as a part of the list that has it: an empty part at the end of the release's where neither has it, and where

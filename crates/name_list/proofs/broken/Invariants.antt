@@ -1,13 +1,10 @@
--- `name_list::broken` meets its contract. The loop's invariant: what is left decides, and there are no more entries in it than it has bytes.
-use Prim.Native.Nat.{ℕ, ◌+◌, ◌-◌, ◌≤◌}
-use mathlib.Core.Path.{◌≡◌}
-use lib.ListN.{length, drop}
-use Rattle.name_list.specs.Names.{entries_broken}
+-- `name_list::broken` meets its contract. The loop's invariant: what is left decides.
+use lib.ListN.{length}
+use Rattle.name_list.proofs.Lists.{Judged}
 use Rattle.name_list.proofs.broken.Given as goal
 
-abbrev pub invariant-loop-i : goal.invariant-loop-i
-invariant-loop-i l =
-    (l.i ≤ length l.list) × ((most : ℕ) × (length l.list ≤ l.i + most) × (entries_broken most l.least (drop l.i l.list) ≡ entries_broken (length l.list) 0 l.list))
+abbrev pub invariant-loop-entry : goal.invariant-loop-entry
+invariant-loop-entry l = Judged l.list l.least l.rest
 
-abbrev pub decreases-loop-i : goal.decreases-loop-i
-decreases-loop-i l = length l.list - l.i
+abbrev pub decreases-loop-entry : goal.decreases-loop-entry
+decreases-loop-entry l = length l.rest

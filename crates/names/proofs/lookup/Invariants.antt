@@ -4,8 +4,8 @@ use lib.ListN.{length}
 use Rattle.names.proofs.Spans.{Left}
 use Rattle.names.proofs.lookup.Given as goal
 
-abbrev pub invariant-loop-i : goal.invariant-loop-i
-invariant-loop-i l = (l.i ≤ length l.list) × Left l.list l.first l.i
+abbrev pub invariant-loop-entry : goal.invariant-loop-entry
+invariant-loop-entry l = (l.at ≤ length l.list) × Left l.list l.first l.at
 
-abbrev pub decreases-loop-i : goal.decreases-loop-i
-decreases-loop-i l = length l.list - l.i
+abbrev pub decreases-loop-entry : goal.decreases-loop-entry
+decreases-loop-entry l = length l.list - l.at
