@@ -33,46 +33,17 @@ pub fn read_full<R: Read>(input: &mut R, buf: &mut [u8]) -> usize
 {
     let mut done = 0;
     while done < buf.len() {
-        let n = read_some(input, &mut buf[done..]);
-        if n == 0 {
-            break;
+        match input.read(&mut buf[done..]) {
+            Ok(0) | Err(_) => break,
+            Ok(n) => done += n,
         }
-        done += n;
     }
     done
 }
 
-// One read. That it failed, and that the input has ended, it answers by 0.
-fn read_some<R: Read>(input: &mut R, buf: &mut [u8]) -> usize
-    ensures { IsPrefixLen result buf.new }
-{
-    match input.read(buf) {
-        Ok(n) => n,
-        Err(_) => 0,
-    }
-}
-
 // Writes all bytes, or stops at the first write that takes none or fails.
 pub fn write_all<W: Write>(out: &mut W, bytes: &[u8]) -> bool {
-    let mut done = 0;
-    while done < bytes.len() {
-        let n = write_some(out, &bytes[done..]);
-        if n == 0 {
-            return false;
-        }
-        done += n;
-    }
-    true
-}
-
-// One write. That it failed it answers by 0.
-fn write_some<W: Write>(out: &mut W, bytes: &[u8]) -> usize
-    ensures { result ≤ length bytes.now }
-{
-    match out.write(bytes) {
-        Ok(n) => n,
-        Err(_) => 0,
-    }
+    out.write_all(bytes).is_ok()
 }
 
 pub fn write_front<W: Write>(out: &mut W, bytes: &[u8], len: usize) -> bool
@@ -85,8 +56,7 @@ pub fn write_front<W: Write>(out: &mut W, bytes: &[u8], len: usize) -> bool
 pub fn write<W: Write>(out: &mut W, text: Text) -> bool
     requires { text.len ≤ room }
 {
-    let bytes = text.bytes;
-    write_front(out, &bytes, text.len)
+    write_front(out, &text.bytes, text.len)
 }
 
 // Writes what was added, and answers whether the listing goes on. One that cannot be written does not.
@@ -94,10 +64,7 @@ pub fn shown<W: Write>(out: &mut W, text: Text, more: bool) -> bool
     requires { text.len ≤ room }
     ensures { result ≡ true → more ≡ true }
 {
-    if write(out, text) {
-        return more;
-    }
-    false
+    write(out, text) && more
 }
 
 // Reads a packed property to the front of `form`. Its first byte says how many bytes it has, and no more are read. Input that
@@ -165,8 +132,7 @@ fn next<R: Read>(
     let size = record_size(form);
     let mut bytes = [0u8; 6];
     let got = read_full(input, &mut bytes[..size]);
-    let clock = status.clock;
-    let read = read_record(form, &bytes[..got], clock.latest);
+    let read = read_record(form, &bytes[..got], status.clock.latest);
     printed::lent::record(p, table, rows, status, count, read)
 }
 
@@ -185,20 +151,17 @@ fn records<R: Read, W: Write>(input: &mut R, out: &mut W, form: Form, s: Session
     requires { (s ≡ (fresh_of s.property).session) × (out_of_range s ≡ false) }
 {
     let p = s.property;
-    let shared = s.shared;
     let table = table::table(p);
     let mut rows = session_record::rows_of(s);
-    let mut status = shared.status;
+    let mut status = s.shared.status;
     let mut count = 0;
-    let mut turns = 0;
-    while turns < u64::MAX {
+    for turns in 0..u64::MAX {
         let r = next(input, form, p, &table, &mut rows, status, count);
         if !put(out, form, p, turns, r.text, r.more) {
             return;
         }
         status = r.status;
         count = r.count;
-        turns += 1;
     }
 }
 

@@ -21,14 +21,6 @@ struct ListRead {
     len: usize,
 }
 
-// Reads so many bytes to the front of `list`, or fewer where the input ends.
-fn read_front<R: Read>(input: &mut R, list: &mut [u8], size: usize) -> usize
-    requires { size ≤ length list.old }
-    ensures { IsPrefixLen result list.new × (result ≤ size) }
-{
-    listing_shell::read_full(input, &mut list[..size])
-}
-
 // Reads a list. Input that ends early and a read that fails leave fewer bytes, which is then refused.
 fn read_list<R: Read>(input: &mut R, of_release: bool, list: &mut [u8]) -> ListRead
     requires { 65536 ≤ length list.old }
@@ -37,10 +29,10 @@ fn read_list<R: Read>(input: &mut R, of_release: bool, list: &mut [u8]) -> ListR
     let mut head = [0u8; 2];
     let got = listing_shell::read_full(input, &mut head);
     let size = name_list::size(head[0], head[1]);
-    let len = read_front(input, list, size);
+    let len = listing_shell::read_full(input, &mut list[..size]);
     ListRead {
         refusal: name_list::refused(of_release, &head[..got], &list[..len]),
-        len: len,
+        len,
     }
 }
 
@@ -58,11 +50,7 @@ fn put<'a, W: Write>(
     requires { NamedFollows site.now release.now p records text × (text.len ≤ named_room) }
     ensures { result ≡ true → more ≡ true }
 {
-    let bytes = text.bytes;
-    if listing_shell::write_front(out, &bytes, text.len) {
-        return more;
-    }
-    false
+    listing_shell::write_front(out, &text.bytes, text.len) && more
 }
 
 // Lists the records. A proved loop has to end, and nothing says that the input does: the loop counts its turns, up to a number that no
@@ -79,8 +67,7 @@ fn records<'a, R: Read, W: Write>(
     let p = s.property;
     let mut session = s;
     let mut count = 0;
-    let mut turns = 0;
-    while turns < u64::MAX {
+    for turns in 0..u64::MAX {
         let mut bytes = [0u8; 6];
         let got = listing_shell::read_full(input, &mut bytes);
         let r = named::record(site, release, session, count, &bytes[..got]);
@@ -89,7 +76,6 @@ fn records<'a, R: Read, W: Write>(
         }
         session = r.session;
         count = r.count;
-        turns += 1;
     }
 }
 
@@ -124,12 +110,10 @@ fn main(rt: HostRuntime) {
         stop(&mut out, other.refusal);
         return;
     }
-    let site_len = own.len;
-    let release_len = other.len;
     log(
         &mut input,
         &mut out,
-        &site[..site_len],
-        &release[..release_len],
+        &site[..own.len],
+        &release[..other.len],
     );
 }

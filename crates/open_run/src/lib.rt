@@ -101,22 +101,18 @@ pub fn take(
         (in_lines outputs.new actions.new stamps.new result.count) }
 {
     let told = one_record::take(p, table, rows, status, read);
-    let answer = told.answer;
     let next = told.status;
-    let clock = next.clock;
-    let came = comes_to(answer.refusal, clock.blind, count, read);
-    match came {
+    match comes_to(told.answer.refusal, next.clock.blind, count, read) {
         Outcome::Line(output, action, stamp) => {
             keep(outputs, actions, stamps, count, output, action, stamp);
-            let longer = count + 1;
             Noted {
                 did: Did::Took,
                 status: next,
-                count: longer,
+                count: count + 1,
             }
         }
         Outcome::Other(did, after) => Noted {
-            did: did,
+            did,
             status: next,
             count: after,
         },

@@ -15,15 +15,10 @@ pub extern "C" fn anthegyra_pace_walk(
     ensures { result ≡ paced property.now trace.now budget times }
 {
     let read = property_form::read_property(property);
-    let p = read.property;
-    let fresh = session::fresh(p);
-    let s = fresh.session;
+    let fresh = session::fresh(read.property);
     let mut taken = 0;
-    let mut i = 0;
-    while i < times {
-        let w = walk::walk(s, trace, budget);
-        taken = w.taken;
-        i += 1;
+    for _ in 0..times {
+        taken = walk::walk(fresh.session, trace, budget).taken;
     }
     taken
 }

@@ -41,8 +41,7 @@ fn next<R: Read>(
 {
     let mut bytes = [0u8; 6];
     let got = listing_shell::read_full(input, &mut bytes);
-    let clock = status.clock;
-    let read = record_form::read_record(&bytes[..got], clock.latest);
+    let read = record_form::read_record(&bytes[..got], status.clock.latest);
     open_run::take(
         p, table, rows, status, outputs, actions, stamps, count, read,
     )
@@ -57,12 +56,10 @@ fn stop<W: Write>(out: &mut W, refusal: u64) {
 fn order<W: Write>(out: &mut W, numbers: &[u64; 256], moments: &[i64; 256], count: usize) -> bool
     requires { count ≤ most_lines }
 {
-    let mut i = 0;
-    while i < count {
-        if !listing_shell::write(out, reason_text::placed(numbers[i], moments[i])) {
+    for (number, moment) in numbers[..count].iter().zip(moments) {
+        if !listing_shell::write(out, reason_text::placed(*number, *moment)) {
             return false;
         }
-        i += 1;
     }
     true
 }
@@ -144,15 +141,13 @@ fn records<R: Read, W: Write>(input: &mut R, out: &mut W, p: Property)
     let table = table::table(p);
     let fresh = session::fresh(p);
     let s = fresh.session;
-    let shared = s.shared;
     let mut rows = session_record::rows_of(s);
-    let mut status = shared.status;
+    let mut status = s.shared.status;
     let mut outputs = [false; 256];
     let mut actions = [0u8; 256];
     let mut stamps = [0u64; 256];
     let mut count = 0;
-    let mut turns = 0;
-    while turns < u64::MAX {
+    for turns in 0..u64::MAX {
         let r = next(
             input,
             p,
@@ -164,16 +159,12 @@ fn records<R: Read, W: Write>(input: &mut R, out: &mut W, p: Property)
             &mut stamps,
             count,
         );
-        let did = r.did;
         status = r.status;
         count = r.count;
-        match did {
-            Did::Took => {
-                turns += 1;
-            }
+        match r.did {
+            Did::Took => {}
             Did::Ended => {
-                let clock = status.clock;
-                if clock.blind {
+                if status.clock.blind {
                     listing_shell::write(out, reason_text::blind());
                     return;
                 }

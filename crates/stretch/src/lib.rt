@@ -43,8 +43,7 @@ fn verdict_of(p: Property, rows: &[Words], status: Status) -> u64
     requires { Ready (memory p rows.now status) }
     ensures { result ≡ standing (record_in (memory p rows.now status)) }
 {
-    let clock = status.clock;
-    if clock.blind {
+    if status.clock.blind {
         return 3;
     }
     cuts::verdict(rows, status.span, 0) as u64
@@ -58,20 +57,17 @@ fn trace_verdict(p: Property, trace: &[u8]) -> Judged
     let table = table::table(p);
     let fresh = session::fresh(p);
     let s = fresh.session;
-    let shared = s.shared;
     let mut rows = session_record::rows_of(s);
-    let r = walk::records(p, &table, &mut rows, shared.status, trace, trace.len());
-    let stop = r.stop;
-    match stop {
+    let r = walk::records(p, &table, &mut rows, s.shared.status, trace, trace.len());
+    match r.stop {
         Stop::Budget => refusal(7),
         Stop::End => {
             if r.read < trace.len() {
                 return refusal(8);
             }
-            let verdict = verdict_of(p, &rows, r.status);
             Judged {
                 refusal: 0,
-                verdict: verdict,
+                verdict: verdict_of(p, &rows, r.status),
                 count: r.taken,
             }
         }
@@ -84,15 +80,13 @@ pub fn judge(property: &[u8], trace: &[u8]) -> Judged
     ensures { result ≡ judge_of property.now trace.now }
 {
     let read = property_form::read_property(property);
-    let number = read.refusal;
-    if number != 0 {
-        return refusal(number);
+    if read.refusal != 0 {
+        return refusal(read.refusal);
     }
-    let p = read.property;
-    if property_form::form_bytes(p.n) < property.len() {
+    if property_form::form_bytes(read.property.n) < property.len() {
         return refusal(8);
     }
-    trace_verdict(p, trace)
+    trace_verdict(read.property, trace)
 }
 
 // The same in one number, for C: refusal × 65,536 + verdict × 16,384 + count.

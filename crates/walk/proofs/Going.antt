@@ -139,16 +139,18 @@ module _ {budget taken at : ℕ} {start now : Memory} {lost : ℕ} {bytes : List
       shown : did_by (Not n) s (record_in after) more ≡ stopped s (Refused n) 0
       shown = unfold did_by in refl
 
-  pub going_done : budget ≤ taken → HasGone budget start bytes taken Budget at lost now
+  pub going_done : budget ≤ taken → HasGone budget start bytes budget Budget at lost now
   going_done h =
       let e : budget - taken ≡ 0 = omega arith in
-      record {
+      let all : taken ≡ budget = omega arith in
+      subst (λ (n : ℕ). HasGone budget start bytes n Budget at lost now) all
+      (record {
         walked =
             g.same ∙ ap (λ (b : ℕ). ahead taken at (walk_on b s (drop at bytes))) e ∙ ap (ahead taken at) shown ∙ stopped_here Budget s refl;
         within = g.inside;
         number = g.number;
         ready = g.ready;
-      }
+      })
     where
       shown : walk_on 0 s (drop at bytes) ≡ stopped s Budget 0
       shown = unfold walk_on in refl

@@ -1,12 +1,11 @@
 // The walk: records of a trace, one after the other, on a session.
 #![tactic(auto)]
 
-ghost use Rattle.std.specs.Prelude.{◌≡◌, cond, length};
+ghost use Rattle.std.specs.Prelude.{◌≡◌, length};
 ghost use Rattle.fields.specs.Rest.{Rest};
 ghost use Rattle.table.specs.Table.{IsTable};
 ghost use Rattle.session_record.specs.Lent.{memory, Ready};
-ghost use Rattle.walk.specs.Walk.{in_numbers, walk_of, budget_of, rest_start};
-ghost use Rattle.walk.specs.declared.Did.TheVariants.{Took};
+ghost use Rattle.walk.specs.Walk.{in_numbers, walk_of, rest_start};
 ghost use Rattle.walk.specs.Lent.{turn_of, HasGone};
 
 use held::Status;
@@ -68,22 +67,6 @@ pub struct Went {
     pub status: Status,
 }
 
-// A record was taken. `number` is its number of lost lines if it is a gap, and `before` the last gap's so far.
-fn took(gap: bool, number: u8, before: u8) -> Turn
-    ensures { result ≡ record { did = Took; lost = cond gap number before } }
-{
-    if gap {
-        return Turn {
-            did: Did::Took,
-            lost: number,
-        };
-    }
-    Turn {
-        did: Did::Took,
-        lost: before,
-    }
-}
-
 // What a record did, as it was read, with the number of the session's refusal or 0; `lost` is the last gap's number so far.
 fn done(refusal: u64, lost: u8, read: RecordRead) -> Turn
     ensures { result ≡ turn_of refusal lost read }
@@ -91,33 +74,26 @@ fn done(refusal: u64, lost: u8, read: RecordRead) -> Turn
     if refusal != 0 {
         return Turn {
             did: Did::Not(refusal),
-            lost: lost,
+            lost,
         };
     }
     match read {
-        RecordRead::Input(_, _) => took(false, 0, lost),
-        RecordRead::Output(_, _) => took(false, 0, lost),
-        RecordRead::Gap(number, _) => took(true, number, lost),
+        RecordRead::Input(_, _) | RecordRead::Output(_, _) => Turn {
+            did: Did::Took,
+            lost,
+        },
+        RecordRead::Gap(number, _) => Turn {
+            did: Did::Took,
+            lost: number,
+        },
         RecordRead::End(_) => Turn {
             did: Did::Ended,
-            lost: lost,
+            lost,
         },
         RecordRead::Refused(number) => Turn {
             did: Did::Not(number),
-            lost: lost,
+            lost,
         },
-    }
-}
-
-fn gone(taken: usize, stop: Stop, read: usize, lost: u8, status: Status) -> Went
-    ensures { result ≡ record { taken = taken; stop = stop; read = read; lost = lost; status = status } }
-{
-    Went {
-        taken: taken,
-        stop: stop,
-        read: read,
-        lost: lost,
-        status: status,
     }
 }
 
@@ -134,43 +110,46 @@ pub fn records(
     ensures { HasGone budget (memory p rows.old status) trace.now result.taken result.stop result.read result.lost
         (memory p rows.new result.status) }
 {
-    let mut taken = 0;
     let mut at = 0;
     let mut here = status;
     let mut lost = 0;
-    while taken < budget {
-        let clock = here.clock;
-        let read = record_form::read_record(&trace[at..], clock.latest);
+    for taken in 0..budget {
+        let read = record_form::read_record(&trace[at..], here.clock.latest);
         let told = one_record::take(p, table, rows, here, read);
-        let answer = told.answer;
-        let next = told.status;
-        let t = done(answer.refusal, lost, read);
-        let did = t.did;
-        match did {
+        here = told.status;
+        let turn = done(told.answer.refusal, lost, read);
+        match turn.did {
             Did::Took => {
-                here = next;
-                lost = t.lost;
+                lost = turn.lost;
                 at += RECORD_SIZE;
-                taken += 1;
             }
             Did::Ended => {
-                return gone(taken, Stop::End, at + RECORD_SIZE, lost, next);
+                return Went {
+                    taken,
+                    stop: Stop::End,
+                    read: at + RECORD_SIZE,
+                    lost,
+                    status: here,
+                };
             }
             Did::Not(number) => {
-                return gone(taken, Stop::Refused(number), at, lost, next);
+                return Went {
+                    taken,
+                    stop: Stop::Refused(number),
+                    read: at,
+                    lost,
+                    status: here,
+                };
             }
         }
     }
-    gone(taken, Stop::Budget, at, lost, here)
-}
-
-fn limited(budget: usize) -> usize
-    ensures { result ≡ budget_of budget }
-{
-    if MOST_RECORDS < budget {
-        return MOST_RECORDS;
+    Went {
+        taken: budget,
+        stop: Stop::Budget,
+        read: at,
+        lost,
+        status: here,
     }
-    budget
 }
 
 // Takes records from the front of `trace`, as many as `budget` says or 4,096.
@@ -187,15 +166,14 @@ pub fn walk(s: Session, trace: &[u8], budget: usize) -> Walked
         };
     }
     let p = s.property;
-    let shared = s.shared;
     let table = table::table(p);
     let mut rows = session_record::rows_of(s);
-    let r = records(p, &table, &mut rows, shared.status, trace, limited(budget));
-    let stop = r.stop;
+    let most = budget.min(MOST_RECORDS);
+    let r = records(p, &table, &mut rows, s.shared.status, trace, most);
     if r.taken == 0 {
         return Walked {
             taken: 0,
-            stop: stop,
+            stop: r.stop,
             read: r.read,
             lost: 0,
             session: s,
@@ -203,7 +181,7 @@ pub fn walk(s: Session, trace: &[u8], budget: usize) -> Walked
     }
     Walked {
         taken: r.taken,
-        stop: stop,
+        stop: r.stop,
         read: r.read,
         lost: r.lost,
         session: session_record::made(p, &rows, r.status),

@@ -4,7 +4,6 @@ use mathlib.Core.Path.{◌≡◌, refl, sym, ap, ◌∙◌}
 use mathlib.Core.List.{List}
 use native.Mathlib.Omega.{arith}
 use native.Mathlib.Numerals.{add-one}
-use native.Mathlib.Nat.{le_antisymm}
 use Rattle.property_form.specs.declared.PropertyRead.{PropertyRead}
 use Rattle.session_record.specs.declared.Session.{Session}
 use Rattle.session_record.specs.declared.Stepped.{Stepped}
@@ -22,16 +21,16 @@ one-taken : (s : Session) (trace : List ℕ) (budget i : ℕ) (w : Walked) → i
 unfolding last_taken
 one-taken s trace budget i w e = ap (λ (x : Walking). x.taken) e ∙ ap (last_taken s trace budget) (sym (add-one i))
 
-pub loop-i-init : goal.loop-i-init
-loop-i-init c = (omega arith, none-taken _ _ _)
+pub loop-init : goal.loop-init
+loop-init c = none-taken _ _ _
 
-pub loop-i-preserved : goal.loop-i-preserved
-loop-i-preserved c = (omega arith, one-taken _ _ _ _ c.walk-w.result c.walk-w.ensures)
+pub loop-preserved : goal.loop-preserved
+loop-preserved c = one-taken _ _ _ _ c.walk-taken.result c.walk-taken.ensures
 
 pub returns : goal.returns
 returns c =
-    let done : c.loop-i.i ≡ c.args.times = le_antisymm c.loop-i.invariant.0 c.loop-i-test.false in
-    c.loop-i.invariant.1
+    let done : c.loop.counter ≡ c.args.times = omega arith in
+    c.loop.invariant
     ∙ ap (last_taken c.fresh-fresh.result.session c.args.trace.now c.args.budget) done
     ∙ ap (λ (r : Stepped). last_taken r.session c.args.trace.now c.args.budget c.args.times) c.fresh-fresh.ensures
     ∙ ap (λ (r : PropertyRead). last_taken (fresh_of r.property).session c.args.trace.now c.args.budget c.args.times) c.read_property-read.ensures

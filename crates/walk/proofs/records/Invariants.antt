@@ -1,5 +1,4 @@
 -- `walk::records` meets its contract. The loop: what has been taken, and what is left of the walk.
-use Prim.Native.Nat.{◌-◌}
 use mathlib.Core.Path.{◌≡◌}
 use lib.ListN.{length}
 use Rattle.session_record.specs.Lent.{memory}
@@ -9,6 +8,3 @@ use Rattle.walk.proofs.records.Given as goal
 abbrev pub invariant-loop-taken : goal.invariant-loop-taken
 invariant-loop-taken l =
     Going l.budget l.taken l.at (memory l.p l.initial.rows l.initial.here) (memory l.p l.rows l.here) l.lost l.trace × (length l.rows ≡ length l.initial.rows)
-
-abbrev pub decreases-loop-taken : goal.decreases-loop-taken
-decreases-loop-taken l = l.budget - l.taken

@@ -1,9 +1,0 @@
--- `show_why::order` ends: there are no more lines than places.
-use Rattle.std.proofs.Common.{◌-◌, ◌≤◌}
-use Rattle.show_why.proofs.order.Given as goal
-
-abbrev pub invariant-loop-i : goal.invariant-loop-i
-invariant-loop-i g l = l.i ≤ l.count
-
-abbrev pub decreases-loop-i : goal.decreases-loop-i
-decreases-loop-i g l = l.count - l.i
