@@ -2,13 +2,14 @@
 use Prim.Native.Nat.{ℕ, zero, suc, ◌+◌, ◌-◌, ◌*◌, ◌/◌, ◌%◌, ◌^◌, ◌≤◌, ◌<◌}
 use mathlib.Core.Path.{◌≡◌, refl, sym, ap, ap₂, ◌∙◌, subst}
 use mathlib.Core.Logic.{⊎_elim}
-use mathlib.Core.List.{List, [], ◌∷◌, ◌++◌, append_assoc}
-use native.Mathlib.Nat.{add_assoc, zero-add, not-suc-le-zero, le_of_suc-le-suc, eq-or-lt_of_le}
+use mathlib.Core.List.{List, [], ◌∷◌, ◌++◌}
+use native.Mathlib.Nat.{zero-add, not-suc-le-zero, le_of_suc-le-suc, eq-or-lt_of_le}
 use native.Mathlib.Numerals.{add-one}
 use native.Mathlib.Omega.{arith}
 use lib.Dec.{lit<}
 use lib.ListN.{length, get_or, take, drop, set, replicate, length-append, get_or-append, get_or-eq_default}
-use lib.Seq.{length_paste_head, take_all, drop-drop, paste, drop-cons, set_at, append_snoc, take-append_seam, take-length, drop-append-add, get_or_at, ext_get_or, get_or-take, length-take-le}
+use lib.Seq.{paste, drop-cons, set_at, append_snoc, take-append_seam, take-length, drop-append-add, get_or_at, ext_get_or, get_or-take, length-take-le}
+use Rattle.std.proofs.lemmas.List.Edits.{paste-paste as paste_then_paste}
 use Rattle.fields.specs.Fields.{digit, bit, number, field, bits, run, at, packed, size, form, Bits}
 use Rattle.fields.proofs.Laws.{le-or-lt, digit_lt, length-bits, length_run, getD_run, digit-number, number_digits, number_same, number-add, number_at}
 
@@ -58,14 +59,7 @@ paste-behind l z b i k ei ek =
 
 -- bits put right behind bits that were put
 pub paste-paste : (d a b : List ℕ) (i ka kb : ℕ) → length a ≡ ka → length b ≡ kb → i ≤ length d → paste (paste d i a ka) (i + ka) b kb ≡ paste d i (a ++ b) (ka + kb)
-paste-paste d a b i ka kb ea eb h =
-    paste-behind (take i d ++ take ka a) (drop (i + ka) d) b (i + ka) kb
-    (length_paste_head d i a ka h (omega arith)) eb
-    ∙ ap₂ (λ (x y : List ℕ). ((take i d ++ x) ++ b) ++ y) (take_all ka a (omega arith)) (drop-drop kb (i + ka) d)
-    ∙ ap₂ (λ (x : List ℕ) (y : ℕ). x ++ drop y d)
-    (append_assoc (take i d) a b
-    ∙ ap (λ (x : List ℕ). take i d ++ x) (sym (take_all (ka + kb) (a ++ b) (omega (arith, length-append a b)))))
-    (add_assoc i ka kb)
+paste-paste d a b i ka kb ea eb h = paste_then_paste d i a b ka kb (sym ea) (sym eb) h
 
 -- ---- packed bytes
 

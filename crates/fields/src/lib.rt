@@ -9,7 +9,7 @@ ghost use Rattle.fields.specs.Fields.{digit, bit, field, number, bits, at, packe
 pub fn wide(b: u8) -> u64
     ensures { (result ≡ b) × (b < 256) }
 {
-    b as u64
+    u64::from(b)
 }
 
 // Bit i of the bytes.
@@ -17,7 +17,7 @@ fn bit_at(s: &[u8], i: usize) -> u64
     requires { i < 8 * length s.now }
     ensures { result ≡ bit s.now i }
 {
-    (wide(s[i / 8]) >> (7 - i % 8)) % 2
+    (u64::from(s[i / 8]) >> (7 - i % 8)) % 2
 }
 
 // The field of `width` bits from bit `start` of the bytes.
@@ -25,11 +25,9 @@ pub fn field_at(s: &[u8], start: usize, width: usize) -> u64
     requires { (start + width ≤ 8 * length s.now) × (start + width < 2 ^ 64) × (width ≤ 64) }
     ensures { result ≡ field s.now start width }
 {
-    let mut v: u64 = 0;
-    let mut k = 0;
-    while k < width {
-        v = 2 * v + bit_at(s, start + k);
-        k += 1;
+    let mut v = 0;
+    for i in start..start + width {
+        v = 2 * v + bit_at(s, i);
     }
     v
 }
@@ -47,10 +45,8 @@ pub fn put_field(list: &mut [u8], start: usize, width: usize, v: u64)
     requires { (start + width ≤ length list.old) × (width ≤ 64) }
     ensures { list.new ≡ paste list.old start (bits width v) width }
 {
-    let mut j = 0;
-    while j < width {
-        list[start + j] = digit_of(v, width - 1 - j);
-        j += 1;
+    for (j, place) in list[start..start + width].iter_mut().enumerate() {
+        *place = digit_of(v, width - 1 - j);
     }
 }
 
@@ -59,11 +55,9 @@ fn byte_of(list: &[u8], j: usize) -> u8
     requires { (8 * j + 8 ≤ length list.now) × Bits (at list.now) }
     ensures { result ≡ number (at list.now) (8 * j) 8 }
 {
-    let mut v: u8 = 0;
-    let mut k = 0;
-    while k < 8 {
-        v = 2 * v + list[8 * j + k];
-        k += 1;
+    let mut v = 0;
+    for bit in &list[8 * j..8 * j + 8] {
+        v = 2 * v + *bit;
     }
     v
 }
@@ -73,9 +67,7 @@ pub fn pack(list: &[u8], n: usize, buf: &mut [u8])
     requires { (8 * n ≤ length list.now) × (n ≤ length buf.old) × Bits (at list.now) }
     ensures { buf.new ≡ packed (at list.now) n ++ drop n buf.old }
 {
-    let mut j = 0;
-    while j < n {
-        buf[j] = byte_of(list, j);
-        j += 1;
+    for (j, byte) in buf[..n].iter_mut().enumerate() {
+        *byte = byte_of(list, j);
     }
 }

@@ -25,10 +25,5 @@ pub fn stamp_field(s: &[u8]) -> u64
     requires { 6 ≤ length s.now }
     ensures { result ≡ field s.now 8 40 }
 {
-    // The last byte first: in this order the compiler loads four of them at once.
-    (s[5] as u64)
-        + ((s[4] as u64) << 8)
-        + ((s[3] as u64) << 16)
-        + ((s[2] as u64) << 24)
-        + ((s[1] as u64) << 32)
+    u64::from_be_bytes([0, 0, 0, s[1], s[2], s[3], s[4], s[5]])
 }

@@ -1,12 +1,12 @@
 -- The reader's answer: what is known where it refuses and where it takes.
 use Prim.Native.Nat.{ℕ, zero, suc, ◌+◌, ◌<◌, ◌≤◌}
-use mathlib.Core.Bool.{Bool, false, not, true≢false}
+use mathlib.Core.Bool.{Bool, true, false, not, true≢false}
 use mathlib.Core.Path.{◌≡◌, refl, sym, ◌∙◌, ap, subst}
 use mathlib.Core.List.{List}
 use native.Mathlib.Omega.{arith}
 use lib.ListN.{length}
 use lib.Dec.{ltb, eqb}
-use borrow.Author.Tests.{lt-ltb, le-ltb, ltb-false, eqb-true, not-false}
+use borrow.Author.Tests.{lt-ltb, le-ltb, ltb-false, eqb-true, eqb-false, not-false}
 use Rattle.laws.proofs.Tests.{or_split}
 use Rattle.meaning.specs.Numbers.{given, first_of}
 use Rattle.meaning.proofs.Refusals.{given-none, none_first, unless_taken, unless_kept}
@@ -52,6 +52,14 @@ case-read a e same is = record { answer = e ∙ ap case_of is; in_numbers = ap n
 
 pub as_case : {reader : Reader} {s : List ℕ} {before : ℕ} {r : RecordRead} → ReadBy reader s before r → ReadBy reader s before (case_of (reader s before))
 as_case {reader} {s} {before} h = subst (ReadBy reader s before) h.answer h
+
+-- The number that `is_taken` tests is the reader's refusal.
+module _ {reader : Reader} {s : List ℕ} {before : ℕ} {r : RecordRead} {b : Bool} (h : ReadBy reader s before r) (e : b ≡ eqb (numbers r).refusal 0) where
+  pub none-refused : b ≡ true → (reader s before).refusal ≡ 0
+  none-refused t = sym (ap (λ (a : RecordAnswer). a.refusal) h.in_numbers) ∙ eqb-true _ 0 (sym e ∙ t)
+
+  pub one-refused : b ≡ false → (reader s before).refusal ≡ 0 → ⊥
+  one-refused f z = eqb-false _ 0 (sym e ∙ f) (ap (λ (a : RecordAnswer). a.refusal) h.in_numbers ∙ z)
 
 is_zero : (n : ℕ) → not (eqb n 0) ≡ false → n ≡ 0
 is_zero n e = eqb-true n 0 (not-false _ e)

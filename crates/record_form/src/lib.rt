@@ -28,10 +28,7 @@ pub enum RecordRead {
 fn sum_above(before: u64, less: u64) -> bool
     ensures { result ≡ stamp_above (before + less) before }
 {
-    if LAST_STAMP < before {
-        return true;
-    }
-    LAST_STAMP - before < less
+    LAST_STAMP < before || LAST_STAMP - before < less
 }
 
 // The record that these fields are, by its kind, each with its own rules.
@@ -40,37 +37,13 @@ pub fn record_of(kind: u64, action: u8, less: u64, before: u64) -> RecordRead
     ensures { result ≡ case_of (answered (fields_refusal kind action less before) (taken kind action (before + less))) }
 {
     match kind {
-        0 => {
-            if sum_above(before, less) {
-                return RecordRead::Refused(4);
-            }
-            RecordRead::Input(action, before + less)
-        }
-        1 => {
-            if sum_above(before, less) {
-                return RecordRead::Refused(4);
-            }
-            RecordRead::Output(action, before + less)
-        }
-        2 => {
-            if sum_above(before, less) {
-                return RecordRead::Refused(4);
-            }
-            RecordRead::Gap(action, before + less)
-        }
+        3 if action != 0 || less != 0 => RecordRead::Refused(8),
+        _ if sum_above(before, less) => RecordRead::Refused(4),
+        0 => RecordRead::Input(action, before + less),
+        1 => RecordRead::Output(action, before + less),
+        2 => RecordRead::Gap(action, before + less),
         // 3: two bits hold no other.
-        _ => {
-            if action != 0 {
-                return RecordRead::Refused(8);
-            }
-            if less != 0 {
-                return RecordRead::Refused(8);
-            }
-            if LAST_STAMP < before {
-                return RecordRead::Refused(4);
-            }
-            RecordRead::End(before)
-        }
+        _ => RecordRead::End(before),
     }
 }
 
@@ -94,11 +67,8 @@ pub fn is_taken(read: RecordRead) -> bool
     ensures { result ≡ eqb (numbers read).refusal 0 }
 {
     match read {
-        RecordRead::Input(_, _) => true,
-        RecordRead::Output(_, _) => true,
-        RecordRead::Gap(_, _) => true,
-        RecordRead::End(_) => true,
         RecordRead::Refused(number) => number == 0,
+        _ => true,
     }
 }
 
@@ -118,15 +88,8 @@ fn to_be_broken(kind: u8, action: u8, later: bool) -> bool
     ensures { result ≡ broken kind action later }
 {
     match kind {
-        0 => false,
-        1 => false,
-        2 => false,
-        3 => {
-            if action != 0 {
-                return true;
-            }
-            later
-        }
+        0..=2 => false,
+        3 => action != 0 || later,
         _ => true,
     }
 }
@@ -136,24 +99,18 @@ fn refusal(kind: u8, action: u8, stamp: u64, before: u64, size: usize) -> u64
     ensures { result ≡ write_refusal kind action stamp before size }
 {
     if to_be_broken(kind, action, stamp != before) {
-        return 8;
+        8
+    } else if LAST_ACTION < action {
+        3
+    } else if LAST_STAMP < stamp || LAST_STAMP < before {
+        4
+    } else if stamp < before {
+        5
+    } else if size < RECORD_SIZE {
+        9
+    } else {
+        0
     }
-    if LAST_ACTION < action {
-        return 3;
-    }
-    if LAST_STAMP < stamp {
-        return 4;
-    }
-    if LAST_STAMP < before {
-        return 4;
-    }
-    if stamp < before {
-        return 5;
-    }
-    if size < RECORD_SIZE {
-        return 9;
-    }
-    0
 }
 
 // Puts the form of a record with these fields at the front of `buf`.
@@ -162,8 +119,8 @@ fn put_record(kind: u8, action: u8, less: u64, buf: &mut [u8])
     ensures { buf.new ≡ record_form kind action less ++ drop record_size buf.old }
 {
     let mut list = [0u8; 48];
-    fields::put_field(&mut list, 0, 2, fields::wide(kind));
-    fields::put_field(&mut list, 2, 6, fields::wide(action));
+    fields::put_field(&mut list, 0, 2, u64::from(kind));
+    fields::put_field(&mut list, 2, 6, u64::from(action));
     fields::put_field(&mut list, 8, 40, less);
     fields::pack(&list, RECORD_SIZE, buf);
 }

@@ -1,7 +1,7 @@
 // The packed record of the tap card (document 02, CR 4): its reader, and the rest behind it.
 #![tactic(auto)]
 
-ghost use Rattle.std.specs.Prelude.{◌≡◌, ◌+◌, ◌%◌, ◌^◌, ◌<◌, ◌≤◌, length};
+ghost use Rattle.std.specs.Prelude.{◌≡◌, ◌<◌, ◌≤◌, length};
 ghost use Rattle.fields.specs.Fields.{field};
 ghost use Rattle.fields.specs.Rest.{Rest};
 ghost use Rattle.record_form.specs.Record.{case_of, taken, answered};
@@ -18,21 +18,15 @@ fn counter_field(s: &[u8]) -> u32
     requires { tap_size ≤ length s.now }
     ensures { result ≡ field s.now 8 32 }
 {
-    fields::field_at(s, 8, 32) as u32
+    u32::from_be_bytes([s[1], s[2], s[3], s[4]])
 }
 
-// A counter less an earlier one, which returns to 0 after 4,294,967,295.
-fn less(counter: u32, earlier: u32) -> u32
-    ensures { (result + earlier) % 2 ^ 32 ≡ counter }
-{
-    std::num::wrapping_sub_u32(counter, earlier)
-}
-
-// The time from the stamp before, whose own counter is what it leaves modulo 2^32.
+// The time from the stamp before, whose own counter is what it leaves modulo 2^32: a counter returns to 0 after 4,294,967,295.
 fn time_since(counter: u32, before: u64) -> u64
     ensures { result ≡ since counter before }
 {
-    less(counter, (before % 4_294_967_296) as u32) as u64
+    let earlier = (before % 4_294_967_296) as u32;
+    u64::from(counter.wrapping_sub(earlier))
 }
 
 // The record that these fields are: by its kind as in document 01, but that the counter of an end is no time, and is 0, and that the card
@@ -42,13 +36,9 @@ fn tap_of(kind: u64, action: u8, counter: u32, before: u64) -> RecordRead
     ensures { result ≡ case_of (answered (tap_fields_refusal kind action counter before) (taken kind (tap_action kind action) (tap_stamp kind counter before))) }
 {
     match kind {
-        2 => {
-            if action != 0 {
-                return RecordRead::Refused(8);
-            }
-            record_form::record_of(kind, MOST_LOST, time_since(counter, before), before)
-        }
-        3 => record_form::record_of(kind, action, counter as u64, before),
+        2 if action != 0 => RecordRead::Refused(8),
+        2 => record_form::record_of(kind, MOST_LOST, time_since(counter, before), before),
+        3 => record_form::record_of(kind, action, u64::from(counter), before),
         _ => record_form::record_of(kind, action, time_since(counter, before), before),
     }
 }
@@ -57,6 +47,7 @@ fn tap_of(kind: u64, action: u8, counter: u32, before: u64) -> RecordRead
 pub fn read_tap(s: &[u8], before: u64) -> RecordRead
     ensures { IsTapRead s.now before result }
 {
+    // As in `read_record`: one function for both would take a size, a reader of the third field and a rule, which is no plainer.
     if s.len() < TAP_SIZE {
         return RecordRead::Refused(7);
     }
@@ -72,6 +63,7 @@ pub fn read_tap(s: &[u8], before: u64) -> RecordRead
 pub fn tap_rest(s: &[u8], before: u64) -> &[u8]
     ensures { Rest (tap_bytes_read s.now before) s.entry result }
 {
+    // As in `record_rest`, whose `&s[6..]` may not change (document 01), so that no function with the size as a parameter serves both.
     if record_form::is_taken(read_tap(s, before)) {
         &s[5..]
     } else {

@@ -6,4 +6,4 @@ use Rattle.fields.proofs.bit_at.Goals as goal
 
 pub returns : goal.returns
 unfolding bit digit
-returns c = ap (λ (x : ℕ). x / 2 ^ (7 - c.args.i % 8) % 2) c.wide.ensures.0
+returns c = ap (λ (x : ℕ). x / 2 ^ (7 - c.args.i % 8) % 2) c.from.ensures

@@ -15,7 +15,7 @@ pack-requires c =
     let is-filled : c.put_field-3.new.list ≡ bits_of =
     filled _ _ _ c.put_field.new.list c.put_field-2.new.list c.put_field-3.new.list
     c.put_field.ensures c.put_field-2.ensures c.put_field-3.ensures
-    ∙ ap₂ (λ (k a : ℕ). record_bits k a c.args.less) c.wide.ensures.0 c.wide-2.ensures.0 in
+    ∙ ap₂ (λ (k a : ℕ). record_bits k a c.args.less) c.from.ensures c.from-2.ensures in
     let l : c.put_field-3.new.list ≡ bits_of = is-filled in
     let n : length bits_of ≡ 48 = length_record_bits _ _ _ in
     (omega (arith, ap length l, n), omega arith, subst (λ (x : List ℕ). Bits (at x)) (sym l) (Bits-record _ _ _))
@@ -27,7 +27,7 @@ returns c =
     let is-filled : c.put_field-3.new.list ≡ bits_of =
     filled _ _ _ c.put_field.new.list c.put_field-2.new.list c.put_field-3.new.list
     c.put_field.ensures c.put_field-2.ensures c.put_field-3.ensures
-    ∙ ap₂ (λ (k a : ℕ). record_bits k a c.args.less) c.wide.ensures.0 c.wide-2.ensures.0 in
+    ∙ ap₂ (λ (k a : ℕ). record_bits k a c.args.less) c.from.ensures c.from-2.ensures in
     c.pack.ensures
     ∙ ap (λ (l : List ℕ). l ++ drop 6 c.args.buf.now)
     (ap (λ (l : List ℕ). packed (at l) 6) is-filled ∙ packed_record _ _ _)

@@ -1,8 +1,7 @@
 -- `tap_form::time_since` meets its contract.
-use Rattle.std.proofs.Common.{rules}
 use Rattle.tap_form.specs.Tap.{since}
 use Rattle.tap_form.proofs.time_since.Goals as goal
 
 pub returns : goal.returns
 unfolding since
-returns c = search rules
+returns c = c.from.ensures
