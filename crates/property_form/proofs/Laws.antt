@@ -4,20 +4,20 @@ use mathlib.Core.Path.{◌≡◌, refl, sym, ap, ap₂, ◌∙◌}
 use mathlib.Core.Logic.{⊎_elim}
 use mathlib.Core.Bool.{Bool, true, false}
 use mathlib.Core.List.{List, [], ◌∷◌, ◌++◌, append_assoc, append-nil}
-use native.Mathlib.Nat.{pow-suc, pow-succ', mod-eq_of_lt, add-zero, add-suc, suc-add, mul-one, mul_left_comm, not-suc-le-zero, le_of_suc-le-suc}
+use native.Mathlib.Nat.{pow-suc, pow-succ', add-zero, add-suc, suc-add, mul-one, mul_left_comm, not-suc-le-zero, le_of_suc-le-suc}
 use native.Mathlib.Numerals.{add-one}
 use native.Mathlib.Omega.{arith}
-use lib.Dec.{lit<}
-use lib.Pow.{pow_mono, pow-lt}
 use lib.ListN.{length, get_or, set, replicate, length-append, length-replicate, get_or-append}
 use lib.Seq.{set_at, append_snoc, paste, ext_get_or, get_or-append-add}
+use Rattle.std.specs.Int.{reverse_bits, reverse_bits_onto}
+use Rattle.std.proofs.Common.{w64}
 use Rattle.meaning.specs.Words.{Action}
 use Rattle.laws.specs.Places.{first}
 use Rattle.property.specs.Meant.{action_of}
 use Rattle.laws.proofs.Places.{length-first, first_snoc, first-add, getD_first}
 use Rattle.laws.proofs.Filled.{getD_repeat}
-use Rattle.fields.specs.Fields.{digit, bits, Bits}
-use Rattle.fields.proofs.Laws.{le-or-lt, digit-zero, digit-suc, length-bits}
+use Rattle.fields.specs.Fields.{digit, number, bits, run, Bits}
+use Rattle.fields.proofs.Laws.{le-or-lt, digit_lt, digit-zero, digit-suc, length-bits, number-one, number_same, number-add, bits-number}
 use Rattle.fields.proofs.Packed.{paste-paste}
 use Rattle.property_form.specs.Form.{flag, action_bits, sequence_bits}
 use Rattle.property_form.specs.Read.{places, mask}
@@ -34,29 +34,38 @@ places_store f d i h =
 
 -- ---- masks
 
-mask_step : (m x k : ℕ) → x < 2 → m < 2 ^ k → m + x * 2 ^ k < 2 ^ suc k
-mask_step m zero k h l = omega (arith, pow-suc 2 k)
-mask_step m (suc zero) k h l = omega (arith, pow-suc 2 k)
-mask_step m (suc (suc x)) k h l = let z : ⊥ = omega arith in absurd z
+-- a field of k bits, taken from its last bit on, is the mask of its bits
+field-reversed : (f : ℕ → ℕ) → Bits f → (i k a : ℕ) → reverse_bits_onto k (number f i k) a ≡ a * 2 ^ k + mask f i k
+unfolding reverse_bits_onto mask number
+field-reversed f b i zero a = omega arith
+field-reversed f b i (suc k) a =
+    let half : (2 * number f i k + f (i + k)) / 2 ≡ number f i k = omega (arith, b (i + k)) in
+    let low : (2 * number f i k + f (i + k)) % 2 ≡ f (i + k) = omega (arith, b (i + k)) in
+    ap₂ (λ (x y : ℕ). reverse_bits_onto k x (a * 2 + y)) half low
+    ∙ field-reversed f b i k (a * 2 + f (i + k))
+    ∙ omega (arith, ap (λ (p : ℕ). a * p) (pow-suc 2 k))
 
-pub mask_lt : (f : ℕ → ℕ) → Bits f → (i k : ℕ) → mask f i k < 2 ^ k
-unfolding mask
-mask_lt f b i zero = lit< tt
-mask_lt f b i (suc k) = mask_step (mask f i k) (f (i + k)) k (b (i + k)) (mask_lt f b i k)
+pub reversed-mask : (f : ℕ → ℕ) → Bits f → (i : ℕ) → reverse_bits w64 (number f i 64) ≡ mask f i 64
+reversed-mask f b i = field-reversed f b i 64 0 ∙ omega arith
 
-pub mask-one_more : (f : ℕ → ℕ) (i k : ℕ) → mask f i k + f (i + k) * 2 ^ k ≡ mask f i (k + 1)
-unfolding mask
-mask-one_more f i k = sym (ap (mask f i) (add-one k))
+-- a number, taken from its last bit on, is the field of its digits from the first on
+number-none : (f : ℕ → ℕ) (i : ℕ) → number f i zero ≡ 0
+unfolding number
+number-none f i = refl
 
-pub mask_fits : (f : ℕ → ℕ) → Bits f → (i k w : ℕ) → k < w → mask f i k + f (i + k) * 2 ^ k < 2 ^ w
-unfolding mask
-mask_fits f b i k w h = omega (arith, mask_lt f b i (suc k), pow_mono {i = suc k} {j = w} h)
+digits-reversed : (k n a : ℕ) → reverse_bits_onto k n a ≡ a * 2 ^ k + number (digit n) 0 k
+unfolding reverse_bits_onto
+digits-reversed zero n a = omega (arith, number-none (digit n) 0)
+digits-reversed (suc k) n a =
+    let rest : number (digit n) (0 + 1) k ≡ number (digit (n / 2)) 0 k =
+    number_same (digit n) (digit (n / 2)) (0 + 1) 0 k (λ m h. ap (digit n) (omega arith) ∙ digit-suc n m ∙ ap (digit (n / 2)) (omega arith)) in
+    let one : number (digit n) 0 1 ≡ n % 2 = number-one (digit n) 0 ∙ digit-zero n in
+    let all : number (digit n) 0 (suc k) ≡ n % 2 * 2 ^ k + number (digit (n / 2)) 0 k =
+    ap (number (digit n) 0) (omega arith) ∙ number-add (digit n) 0 1 k ∙ ap₂ (λ (x y : ℕ). x * 2 ^ k + y) one rest in
+    digits-reversed k (n / 2) (a * 2 + n % 2) ∙ omega (arith, all, ap (λ (p : ℕ). a * p) (pow-suc 2 k))
 
--- a bit shifted to its place
-pub shifted : (x k w : ℕ) → x < 2 → k < w → (x * 2 ^ k) % 2 ^ w ≡ x * 2 ^ k
-shifted zero k w h l = mod-eq_of_lt (omega (arith, pow_mono {i = 0} {j = w} (omega arith)))
-shifted (suc zero) k w h l = mod-eq_of_lt (omega (arith, pow-lt {i = k} {j = w} l))
-shifted (suc (suc x)) k w h l = let z : ⊥ = omega arith in absurd z
+pub reversed-bits : (m : ℕ) → bits 64 (reverse_bits w64 m) ≡ run (digit m) 0 64
+reversed-bits m = ap (bits 64) (digits-reversed 64 m 0 ∙ omega arith) ∙ bits-number (digit m) (digit_lt m) 0 64
 
 -- ---- the bits of a sequence
 

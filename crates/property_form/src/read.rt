@@ -1,9 +1,8 @@
 // The parts of the reader.
 ghost use Rattle.std.specs.Prelude.{◌≡◌, false, ◌+◌, ◌*◌, ◌≤◌, ◌<◌, length};
 ghost use Rattle.meaning.specs.Numbers.{given, first_of};
-ghost use Rattle.fields.specs.Fields.{bit};
 ghost use Rattle.property_form.specs.Form.{form_bits, form_size};
-ghost use Rattle.property_form.specs.Read.{length_read, places, output_read, number_read, mask, property_read, too_short, pad_broken};
+ghost use Rattle.property_form.specs.Read.{length_read, places, output_read, number_read, property_read, too_short, pad_broken};
 
 use crate::form_bytes;
 
@@ -59,19 +58,7 @@ fn numbers(s: &[u8], n: usize) -> [u8; 32]
     number
 }
 
-// The mask of the allowed outputs, whose first bit is bit `start`.
-fn allowed(s: &[u8], start: usize) -> u64
-    requires { (start + 64 ≤ 8 * length s.now) × (start < 1000) }
-    ensures { result ≡ mask (bit s.now) start 64 }
-{
-    let mut m = 0;
-    for k in 0..64 {
-        m += fields::field_at(s, start + k, 1) << k;
-    }
-    m
-}
-
-// The property in the bytes, which have a whole form.
+// The property in the bytes, which have a whole form. The bits of the allowed outputs begin with output 0, which is the mask's last bit.
 pub fn fields_of(s: &[u8], n: usize) -> property::Property
     requires { (n ≡ length_read s.now) × (n ≤ 32) × (form_bits n ≤ 8 * length s.now) }
     ensures { result ≡ property_read s.now }
@@ -80,7 +67,7 @@ pub fn fields_of(s: &[u8], n: usize) -> property::Property
         n,
         output: outputs(s, n),
         number: numbers(s, n),
-        allowed: allowed(s, 58 + 7 * n),
+        allowed: fields::field_at(s, 58 + 7 * n, 64).reverse_bits(),
         lb: fields::field_at(s, 6, 26),
         ub: fields::field_at(s, 32, 26),
     }

@@ -3,9 +3,13 @@ use Prim.Native.Nat.{ℕ, ◌+◌, ◌*◌}
 use mathlib.Core.Path.{◌≡◌, ap, ◌∙◌}
 use mathlib.Core.Bool.{Bool, false}
 use mathlib.Core.List.{List}
+use Rattle.std.proofs.Common.{w64}
+use Rattle.std.specs.Int.{reverse_bits}
 use Rattle.fields.specs.Fields.{field, bit}
+use Rattle.fields.proofs.Laws.{bit-lt}
 use Rattle.property.specs.declared.Property.{Property}
 use Rattle.property_form.specs.Read.{length_read, places, output_read, number_read, mask, property_read}
+use Rattle.property_form.proofs.Laws.{reversed-mask}
 use Rattle.property_form.proofs.read.fields_of.Goals as goal
 
 -- the fields, put together
@@ -26,5 +30,8 @@ fields s n e output number allowed lb ub eo en ea el eu =
 pub returns : goal.returns
 unfolding property_read
 returns c =
-    fields c.args.s.now c.args.n c.requires.0 _ _ _ _ _ c.outputs.ensures c.numbers.ensures
-    c.allowed.ensures c.field_at.ensures c.field_at-2.ensures
+    let s = c.args.s.now in
+    let n = c.args.n in
+    fields s n c.requires.0 _ _ _ _ _ c.outputs.ensures c.numbers.ensures
+    (c.reverse_bits.ensures ∙ ap (reverse_bits w64) c.field_at.ensures ∙ reversed-mask (bit s) (bit-lt s) (58 + 7 * n))
+    c.field_at-2.ensures c.field_at-3.ensures

@@ -1,5 +1,4 @@
 -- `property_form::read::numbers` meets its contract. The loop's invariant: the first i places are read, the others stand.
-use Prim.Native.Nat.{◌-◌, ◌≤◌}
 use mathlib.Core.Path.{◌≡◌}
 use Rattle.property_form.specs.Read.{places, number_read}
 use Rattle.property_form.proofs.read.numbers.Given as goal

@@ -1,15 +1,13 @@
 -- `property_form::read::outputs` meets its contract. The loop's invariant: the first i places are read, the others stand.
 use Prim.Native.Nat.{ℕ}
-use mathlib.Core.Path.{refl, ap, ap₂, ◌∙◌}
+use mathlib.Core.Path.{refl, ap₂, ◌∙◌}
 use mathlib.Core.Bool.{Bool, false}
 use mathlib.Core.List.{List}
-use native.Mathlib.Nat.{le_antisymm}
 use native.Mathlib.Omega.{arith}
-use borrow.Author.Rules.{rules}
 use lib.Dec.{eqb}
 use lib.ListN.{set}
 use Rattle.laws.specs.Places.{first}
-use Rattle.property_form.specs.Read.{places, output_read}
+use Rattle.property_form.specs.Read.{output_read}
 use Rattle.property_form.proofs.Laws.{places_store}
 use Rattle.property_form.proofs.read.outputs.Goals as goal
 

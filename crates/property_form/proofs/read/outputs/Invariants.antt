@@ -1,5 +1,4 @@
 -- `property_form::read::outputs` meets its contract. The loop's invariant: the first i places are read, the others stand.
-use Prim.Native.Nat.{◌-◌, ◌≤◌}
 use mathlib.Core.Path.{◌≡◌}
 use mathlib.Core.Bool.{false}
 use Rattle.property_form.specs.Read.{places, output_read}

@@ -2,16 +2,13 @@
 use mathlib.Core.Path.{◌≡◌, refl, ◌∙◌}
 use mathlib.Core.Bool.{Bool, true, false}
 use mathlib.Core.List.{[]}
-use native.Mathlib.Nat.{le_antisymm}
 use native.Mathlib.Omega.{arith}
-use borrow.Author.Rules.{rules}
 use Rattle.std.specs.Int.{from_bool}
 use lib.ListN.{get_or}
 use lib.Seq.{paste-zero}
 use Rattle.laws.specs.Places.{first}
 use Rattle.property_form.specs.Form.{flag, sequence_bits}
 use Rattle.property_form.proofs.Laws.{action_put}
-use Rattle.property_form.proofs.write.put_actions.Invariants.{put_first}
 use Rattle.property_form.proofs.write.put_actions.Goals as goal
 
 -- a yes or no as a number

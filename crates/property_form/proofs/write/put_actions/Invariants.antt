@@ -1,9 +1,9 @@
 -- `property_form::write::put_actions` meets its contract. The loop's invariant: the bits of the first i actions are put.
-use Prim.Native.Nat.{ℕ, ◌-◌, ◌*◌, ◌≤◌}
+use Prim.Native.Nat.{ℕ, ◌*◌}
 use mathlib.Core.Path.{◌≡◌}
 use mathlib.Core.Bool.{Bool, false}
 use mathlib.Core.List.{List}
-use lib.ListN.{length, get_or}
+use lib.ListN.{get_or}
 use lib.Seq.{paste}
 use Rattle.laws.specs.Places.{first}
 use Rattle.property.specs.Meant.{action_of}
