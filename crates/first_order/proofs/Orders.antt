@@ -26,7 +26,6 @@ pub record Going (p : Property) (ls : Lines) (breaking : Bool) (j : ℕ) (before
   pub at : here ≡ placed p ls breaking start j
   pub within : Within p ls here
   pub filled : Filled 0 0 j (number_at p ls breaking) before numbers
-  pub below : j ≤ count ls
 
 module _ (p : Property) (good : property_refusal (meant p) ≡ 0) (ls : Lines) (breaking : Bool) (found : Found p ls breaking) where
   pub going_start : (numbers : List ℕ) (c : Cut) → c ≡ cut_of at_start → Going p ls breaking 0 numbers numbers (record { input = 0; output = 0; cut = c })
@@ -36,7 +35,6 @@ module _ (p : Property) (good : property_refusal (meant p) ≡ 0) (ls : Lines) (
         at = ap (λ (x : Cut). record { input = 0; output = 0; cut = x }) e;
         within = record { sized = found.sized; fits = subst (Fits p) (sym e) (start_fits p good); input_within = omega arith; output_within = omega arith };
         filled = filled_none 0 0 (number_at p ls breaking) numbers;
-        below = omega arith;
       }
 
   module _ {j : ℕ} {before numbers : List ℕ} {here : Reached} (g : Going p ls breaking j before numbers here) (h : j < count ls) (k : ℕ) (chosen : k ≡ choice p ls breaking here) where
@@ -62,7 +60,6 @@ module _ (p : Property) (good : property_refusal (meant p) ≡ 0) (ls : Lines) (
                 output_within = subst (λ (x : Reached). x.output ≤ count ls) (sym e) (out_bound (is_output ls k));
               };
           filled = filled_more 0 0 (number_at p ls breaking) before j numbers (k + 1) (omega arith) (omega arith) g.filled (let z : k + 1 ≡ suc k = omega arith in z ∙ ap suc is_place);
-          below = omega arith;
         }
       where
         low : k < count ls

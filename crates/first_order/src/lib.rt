@@ -1,7 +1,7 @@
 // The first order of a run with a wanted end, going forward: an output first, wherever that end can still be reached from there.
 #![tactic(auto)]
 
-ghost use Rattle.std.specs.Prelude.{◌+◌, ◌-◌, ◌^◌, ◌≤◌, ◌<◌, ◌≡◌, cond, not, length};
+ghost use Rattle.std.specs.Prelude.{◌+◌, ◌-◌, ◌^◌, ◌≤◌, ◌<◌, ◌≡◌, length};
 ghost use Rattle.laws.specs.Filled.{Filled};
 ghost use Rattle.meaning.specs.Numbers.{property_refusal};
 ghost use Rattle.property.specs.Meant.{meant};
@@ -15,39 +15,22 @@ use judged_rest::Reached;
 use property::Property;
 use table::Table;
 
-// An output, or an input.
-fn is_kind(output: bool, wanted: bool) -> bool
-    ensures { result ≡ cond wanted output (not output) }
-{
-    if wanted {
-        return output;
-    }
-    !output
-}
-
 // The first place from `from` on that has an output, or an input; the run's length where there is none.
 fn next(output: &[bool], wanted: bool, from: usize) -> usize
     requires { from ≤ length output.now }
     ensures { (result ≡ next_from (kind_in output.now wanted) from (length output.now - from)) × (result ≤ length output.now) }
 {
-    let mut k = from;
-    while k < output.len() {
-        if is_kind(output[k], wanted) {
-            return k;
-        }
-        k += 1;
+    match output[from..].iter().position(|kind| *kind == wanted) {
+        Some(behind) => from + behind,
+        None => output.len(),
     }
-    k
 }
 
 // By the verdict on what follows: some explanation breaks, or some does not.
 fn reaches(breaking: bool, verdict: u64) -> bool
     ensures { result ≡ Search.reaches breaking verdict }
 {
-    if breaking {
-        return 1 <= verdict;
-    }
-    verdict <= 1
+    if breaking { 1 <= verdict } else { verdict <= 1 }
 }
 
 // The order with the line at place k behind it.
@@ -62,19 +45,19 @@ fn with_line(
     requires { (property_refusal (meant p) ≡ 0) × IsTable p table.now × Fits p from.cut × (k + 1 < 2 ^ 64) }
     ensures { (result ≡ Search.with_line p from output action k) × Fits p result.cut }
 {
-    let cut = matcher::moved(p, table, from.cut, output, action as u64);
-    let behind = k + 1;
+    let cut = matcher::moved(p, table, from.cut, output, u64::from(action));
     if output {
-        return Reached {
-            input: from.input,
-            output: behind,
-            cut: cut,
-        };
-    }
-    Reached {
-        input: behind,
-        output: from.output,
-        cut: cut,
+        Reached {
+            output: k + 1,
+            cut,
+            ..from
+        }
+    } else {
+        Reached {
+            input: k + 1,
+            cut,
+            ..from
+        }
     }
 }
 
@@ -104,10 +87,7 @@ fn choice(
     }
     let then = with_line(p, table, from, true, action[y], y);
     let end = judged_rest::judge(p, table, output, action, stamp, then);
-    if reaches(breaking, end.verdict) {
-        return y;
-    }
-    x
+    if reaches(breaking, end.verdict) { y } else { x }
 }
 
 // The numbers of the lines of the first order with the wanted end.
@@ -130,12 +110,10 @@ fn order(
         output: 0,
         cut: matcher::start(),
     };
-    let mut j = 0;
-    while j < stamp.len() {
+    for number in numbers[..stamp.len()].iter_mut() {
         let k = choice(p, table, output, action, stamp, breaking, here);
         here = with_line(p, table, here, output[k], action[k], k);
-        numbers[j] = k as u64 + 1;
-        j += 1;
+        *number = k as u64 + 1;
     }
 }
 

@@ -1,10 +1,7 @@
 -- One step of a judgement on lent memory.
-use Prim.Native.Nat.{ℕ, zero, suc, ◌+◌}
+use Prim.Native.Nat.{ℕ, zero, suc}
 use mathlib.Core.Path.{◌≡◌, refl, sym, ap, ◌∙◌}
 use mathlib.Core.Bool.{Bool, true, false, cond}
-use native.Mathlib.Numerals.{add-one}
-use lib.Dec.{eqb}
-use borrow.Author.Tests.{eqb-true}
 use Rattle.meaning.specs.Words.{Line}
 use Rattle.meaning.specs.Numbers.{property_refusal}
 use Rattle.meaning.specs.Calls.{Call}
@@ -22,16 +19,6 @@ use Rattle.session_record.proofs.Ready.{ready_fit, ready-stands}
 use Rattle.judged_rest.specs.declared.Reason.{Reason}
 use Rattle.judged_rest.specs.declared.Reached.{Reached}
 use Rattle.judged_rest.specs.Judged.{Judged, waits, refused_by, told_then, told_by, judged_line, turned, Turned}
-
--- the verdict with the line after which it was first told
-pub told_at : (before : Reason) (v k line : ℕ) → before.refusal ≡ 0 → line ≡ cond (eqb before.verdict v) before.line (k + 1)
-    → record { refusal = 0; verdict = v; line = line } ≡ told_then before v k
-told_at before v k line none at = go (eqb before.verdict v) refl at
-  where
-    go : (same : Bool) → eqb before.verdict v ≡ same → line ≡ cond same before.line (k + 1)
-        → record { refusal = 0; verdict = v; line = line } ≡ cond same before (record { refusal = 0; verdict = v; line = suc k })
-    go true e h = λ i. record { refusal = sym none i; verdict = sym (eqb-true before.verdict v e) i; line = h i }
-    go false e h = λ i. record { refusal = 0; verdict = v; line = (h ∙ add-one k) i }
 
 -- ---- a turn
 

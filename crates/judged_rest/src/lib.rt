@@ -2,7 +2,7 @@
 // line whether it is an output, its action's number, its stamp.
 #![tactic(auto)]
 
-ghost use Rattle.std.specs.Prelude.{◌+◌, ◌^◌, ◌<◌, ◌≡◌, cond, length, eqb};
+ghost use Rattle.std.specs.Prelude.{◌+◌, ◌^◌, ◌<◌, ◌≡◌, length};
 ghost use Rattle.meaning.specs.Numbers.{property_refusal};
 ghost use Rattle.property.specs.Meant.{meant};
 ghost use Rattle.table.specs.Table.{IsTable};
@@ -17,6 +17,7 @@ use held::Status;
 use matcher::Cut;
 use property::Property;
 use rows::Words;
+use session_record::Reply;
 use table::Table;
 
 // Refusal number, verdict, and the line after which it was first told.
@@ -48,9 +49,10 @@ fn waits(from: Reached, k: usize, output: bool) -> bool
     ensures { result ≡ Judged.waits from k output }
 {
     if output {
-        return from.output <= k;
+        from.output <= k
+    } else {
+        from.input <= k
     }
-    from.input <= k
 }
 
 // "A refusal carries 0 in all other numbers"
@@ -64,26 +66,20 @@ pub fn refused(number: u64) -> Reason
     }
 }
 
-// The line after which this verdict was first told: the one at place k, where it is another than before.
-fn first_told(before: Reason, verdict: u64, k: usize) -> u64
-    requires { k + 1 < 2 ^ 64 }
-    ensures { result ≡ cond (eqb before.verdict verdict) before.line (k + 1) }
-{
-    if before.verdict == verdict {
-        return before.line;
-    }
-    k as u64 + 1
-}
-
-// The verdict after the line at place k.
+// The verdict after the line at place k: another than before was first told there.
 fn told(before: Reason, verdict: u64, k: usize) -> Reason
     requires { (before.refusal ≡ 0) × (k + 1 < 2 ^ 64) }
     ensures { result ≡ told_then before verdict k }
 {
+    let line = if before.verdict == verdict {
+        before.line
+    } else {
+        k as u64 + 1
+    };
     Reason {
         refusal: 0,
-        verdict: verdict,
-        line: first_told(before, verdict, k),
+        verdict,
+        line,
     }
 }
 
@@ -103,27 +99,24 @@ fn turn(
     ensures { Turned from output (line_of output action stamp) k
         (memory p rows.old here.status) here.told (memory p rows.new result.status) result.told }
 {
-    let before = here.told;
-    if before.refusal != 0 {
+    if here.told.refusal != 0 || !waits(from, k, output) {
         return here;
     }
-    if !waits(from, k, output) {
-        return here;
-    }
-    let status = here.status;
-    let r = in_place::line(p, table, rows, status, output, action, stamp);
-    let answer = r.answer;
-    let next = r.status;
-    if answer.refusal != 0 {
-        return Judging {
-            status: next,
-            told: refused(answer.refusal),
-        };
-    }
-    Judging {
-        status: next,
-        told: told(before, answer.verdict, k),
-    }
+    let Reply { answer, status } = in_place::line(
+        p,
+        table,
+        rows,
+        here.status,
+        output,
+        action,
+        stamp,
+    );
+    let told = if answer.refusal != 0 {
+        refused(answer.refusal)
+    } else {
+        told(here.told, answer.verdict, k)
+    };
+    Judging { status, told }
 }
 
 // Judges the lines that are not yet in the order.
@@ -139,29 +132,24 @@ pub fn judge(
     requires output_len { (length output.now ≡ length stamp.now) × (length action.now ≡ length stamp.now) }
     ensures { result ≡ (judged p (lent output.now action.now stamp.now) from (length stamp.now)).told }
 {
-    let cut = from.cut;
     let mut rows = [[0u64; 65]; 4];
     let span = rows::spanning(0);
-    cuts::put_cut(&mut rows, span, 0, 0, cut);
-    let status = Status {
-        span: span,
-        clock: clock::fresh(),
-    };
-    let first = Reason {
-        refusal: 0,
-        verdict: matcher::verdict(cut) as u64,
-        line: 0,
-    };
+    cuts::put_cut(&mut rows, span, 0, 0, from.cut);
     let mut here = Judging {
-        status: status,
-        told: first,
+        status: Status {
+            span,
+            clock: clock::fresh(),
+        },
+        told: Reason {
+            refusal: 0,
+            verdict: u64::from(matcher::verdict(from.cut)),
+            line: 0,
+        },
     };
-    let mut k = 0;
-    while k < stamp.len() {
+    for k in 0..stamp.len() {
         here = turn(
             p, table, &mut rows, from, here, output[k], action[k], stamp[k], k,
         );
-        k += 1;
     }
     here.told
 }

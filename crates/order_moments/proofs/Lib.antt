@@ -1,2 +1,1 @@
-pub mod Moments
 pub mod Timing

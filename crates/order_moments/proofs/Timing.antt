@@ -16,25 +16,20 @@ pub record Timing (p : Property) (ls : Lines) (at : ℕ → ℕ) (j : ℕ) (befo
   pub late_is : m ≡ late p ls at j
   pub low : m ≤ last_moment
   pub filled : Filled (pos 0) 0 j (moment_at p ls at) before moments
-  pub below : j ≤ count ls
 
 module _ (p : Property) (ls : Lines) (at : ℕ → ℕ) where
   pub timing_start : (moments : List ℤ) → Timing p ls at 0 moments moments 0
   unfolding late
-  timing_start moments = record { late_is = refl; low = omega arith; filled = filled_none (pos 0) 0 (moment_at p ls at) moments; below = omega arith }
+  timing_start moments = record { late_is = refl; low = omega arith; filled = filled_none (pos 0) 0 (moment_at p ls at) moments }
 
   module _ {j : ℕ} {before moments : List ℤ} {m : ℕ} (t : Timing p ls at j before moments m) (h : j < count ls) (lo : ℕ) (is-low : lo ≡ low_at p ls (at j)) (bounded : lo ≤ last_moment) where
-    pub timing_low : (n : ℕ) → n ≡ max m lo → n ≤ last_moment
-    timing_low n e = let l : m ≤ last_moment = t.low in omega arith
-
     pub timing_next : (n : ℕ) → n ≡ max m lo → (v : ℤ) → v ≡ (pos n -ℤ pos p.ub) → count ls ≤ length before → Timing p ls at (j + 1) before (set moments j v) n
     unfolding late
     timing_next n e v q long =
         record {
           late_is = is_late ∙ ap (late p ls at) (let z : suc j ≡ j + 1 = omega arith in z);
-          low = timing_low n e;
+          low = let l : m ≤ last_moment = t.low in omega arith;
           filled = filled_more (pos 0) 0 (moment_at p ls at) before j moments v (omega arith) (omega arith) t.filled (q ∙ ap (moment_of p) is_late);
-          below = omega arith;
         }
       where
         is_late : n ≡ late p ls at (suc j)

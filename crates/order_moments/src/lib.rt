@@ -1,7 +1,7 @@
 // The earliest moments of an order.
 #![tactic(auto)]
 
-ghost use Rattle.std.specs.Prelude.{ℕ, ◌+◌, ◌-◌, ◌≤◌, ◌<◌, max, ◌≡◌, cond, [], length, get_or, pos, ◌-ℤ◌};
+ghost use Rattle.std.specs.Prelude.{ℕ, ◌+◌, ◌-◌, ◌≤◌, ◌<◌, ◌≡◌, cond, [], length, get_or, pos, ◌-ℤ◌};
 ghost use Rattle.laws.specs.Filled.{Filled};
 ghost use Rattle.meaning.specs.Limits.{last_stamp, last_bound};
 ghost use Rattle.meaning.specs.Numbers.{property_refusal};
@@ -16,19 +16,7 @@ fn low(p: Property, output: bool, stamp: u64) -> u64
     requires { (property_refusal (meant p) ≡ 0) × (stamp ≤ last_stamp) }
     ensures { (result ≡ cond output stamp (stamp + p.lb + p.ub)) × (result ≤ last_moment) }
 {
-    if output {
-        return stamp;
-    }
-    stamp + p.lb + p.ub
-}
-
-fn later(a: u64, b: u64) -> u64
-    ensures { result ≡ max a b }
-{
-    if a < b {
-        return b;
-    }
-    a
+    if output { stamp } else { stamp + p.lb + p.ub }
 }
 
 // A moment counted from UB before 0, counted from 0.
@@ -48,11 +36,9 @@ pub fn earliest(p: Property, output: &[bool], stamp: &[u64], numbers: &[u64], mo
         moments.old moments.new }
 {
     let mut m = 0;
-    let mut j = 0;
-    while j < stamp.len() {
+    for j in 0..stamp.len() {
         let k = numbers[j] as usize - 1;
-        m = later(m, low(p, output[k], stamp[k]));
+        m = m.max(low(p, output[k], stamp[k]));
         moments[j] = moment(m, p.ub);
-        j += 1;
     }
 }

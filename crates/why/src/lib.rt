@@ -12,6 +12,7 @@ use property::Property;
 
 // The orders of a run: for clear the first explanation in the first two lists, for suspect the first that breaks there and the first
 // that does not in the other two, for certain the first that breaks.
+// The run stays three lists: their refusal 7, and the theorems and tests that name it, may not change.
 pub fn explain(
     p: Property,
     output: &[bool],
@@ -31,10 +32,7 @@ pub fn explain(
         return judged_rest::refused(number);
     }
     let n = stamp.len();
-    if output.len() != n {
-        return judged_rest::refused(7);
-    }
-    if action.len() != n {
+    if output.len() != n || action.len() != n {
         return judged_rest::refused(7);
     }
     let table = table::table(p);
@@ -50,16 +48,7 @@ pub fn explain(
     if MOST_LINES < n {
         return judged_rest::refused(13);
     }
-    if numbers.len() < n {
-        return judged_rest::refused(9);
-    }
-    if moments.len() < n {
-        return judged_rest::refused(9);
-    }
-    if numbers2.len() < n {
-        return judged_rest::refused(9);
-    }
-    if moments2.len() < n {
+    if numbers.len() < n || moments.len() < n || numbers2.len() < n || moments2.len() < n {
         return judged_rest::refused(9);
     }
     first_order::write(

@@ -57,9 +57,9 @@ returns-then-reaches c =
     (lt-leb _ _ c.if-stamp-y.false) (lt-leb _ _ c.if-stamp-x.false) (le-ltb _ _ c.if-stamp-x-2.false)
     (sym (asked (goal.at.returns-then-reaches c).After-reaches) ∙ c.if-reaches.true)
 
-pub returns : goal.returns
-returns c =
+pub returns-else-reaches : goal.returns-else-reaches
+returns-else-reaches c =
     not_reached c.args.p (lent c.args.output.now c.args.action.now c.args.stamp.now) c.args.breaking c.args.from c.next-x.result c.next-y.result
     c.next-x.ensures.0 c.next-y.ensures.0 c.requires.2.sized.output_long
     (lt-leb _ _ c.if-stamp-y.false) (lt-leb _ _ c.if-stamp-x.false) (le-ltb _ _ c.if-stamp-x-2.false)
-    (sym (asked (goal.at.returns c).After-reaches) ∙ c.if-reaches.false)
+    (sym (asked (goal.at.returns-else-reaches c).After-reaches) ∙ c.if-reaches.false)

@@ -4,12 +4,10 @@ use Rattle.first_order.proofs.with_line.Goals as goal
 
 pub returns-then-output : goal.returns-then-output
 returns-then-output c =
-    let m = c.moved-cut in
-    let a = c.args in
-    (line-behind a.p c.requires.0 a.from a.output a.action a.k m.result m.ensures c.if-output.true, m.ensures.fits)
+    let moved = rw c.from.ensures at c.moved-cut.ensures in
+    (line-behind _ c.requires.0 c.args.from _ c.args.action c.args.k _ moved c.if-output.true, moved.fits)
 
-pub returns : goal.returns
-returns c =
-    let m = c.moved-cut in
-    let a = c.args in
-    (line-behind a.p c.requires.0 a.from a.output a.action a.k m.result m.ensures c.if-output.false, m.ensures.fits)
+pub returns-else-output : goal.returns-else-output
+returns-else-output c =
+    let moved = rw c.from.ensures at c.moved-cut.ensures in
+    (line-behind _ c.requires.0 c.args.from _ c.args.action c.args.k _ moved c.if-output.false, moved.fits)

@@ -1,5 +1,4 @@
 -- `judged_rest::judge` meets its contract. The loop: what the first k lines have come to.
-use Prim.Native.Nat.{◌-◌, ◌≤◌}
 use mathlib.Core.Path.{◌≡◌}
 use lib.ListN.{length}
 use Rattle.session_record.specs.Lent.{memory, held_in, Ready}
@@ -11,8 +10,4 @@ abbrev pub invariant-loop-k : goal.invariant-loop-k
 invariant-loop-k l =
     (record { cuts = held_in (memory l.p l.rows l.here.status); told = l.here.told } ≡ judged l.p (lent l.output l.action l.stamp) l.from l.k)
     × Ready (memory l.p l.rows l.here.status)
-    × (l.k ≤ length l.stamp)
     × (length l.rows ≡ 4)
-
-abbrev pub decreases-loop-k : goal.decreases-loop-k
-decreases-loop-k l = length l.stamp - l.k

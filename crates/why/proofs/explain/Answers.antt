@@ -1,9 +1,7 @@
 -- `why::explain` meets its contract: refusal by refusal, and where there is none by what was judged and written.
-use Prim.Native.Nat.{◌≤◌}
 use mathlib.Core.Path.{◌≡◌, refl, sym, ap, ◌∙◌, subst}
 use mathlib.Core.Bool.{Bool, true, false, ◌||◌}
 use lib.ListN.{length}
-use lib.Dec.{ltb}
 use borrow.Author.Tests.{lt-ltb}
 use Rattle.meaning.specs.Numbers.{property_refusal}
 use Rattle.meaning.proofs.Tests.{or_left, or_right}
@@ -11,17 +9,18 @@ use Rattle.property.specs.Meant.{meant}
 use Rattle.matcher.specs.declared.Cut.{Cut}
 use Rattle.matcher.specs.Sets.{Fits}
 use Rattle.judged_rest.specs.Lent.{Lines, lent}
-use Rattle.judged_rest.specs.declared.Reason.{Reason}
-use Rattle.judged_rest.specs.Judged.{refused_by, judged}
+use Rattle.judged_rest.specs.Judged.{judged}
 use Rattle.first_order.specs.Search.{Pair, pair, start, Sized, Found}
 use Rattle.first_order.proofs.Orders.{start_fits}
-use Rattle.reasons.specs.Reasons.{most_lines}
-use Rattle.why.specs.Why.{shorter, IsReason}
+use Rattle.why.specs.Why.{shorter}
 use Rattle.why.proofs.Judgement.{Taken}
 use Rattle.why.proofs.Answers.{by_property, by_output, by_action, by_lines, is_taken, is_sized, by_many, by_short, by_told}
 use Rattle.why.proofs.Explaining.{places_found, answer-suspect, answer_other}
 use Rattle.why.proofs.explain.Goals as goal
-use Rattle.why.proofs.explain.Goals.{After-judge-r}
+use Rattle.why.proofs.explain.Goals.{After-judge-r, then-output-n-via-then-output-n, then-output-n-via-else-output-n+then-action-n}
+use Rattle.why.proofs.explain.Goals.{then-numbers-n-via-then-numbers-n, then-numbers-n-via-else-numbers-n+then-moments-n}
+use Rattle.why.proofs.explain.Goals.{then-numbers-n-via-else-numbers-n+else-moments-n+then-numbers2-n}
+use Rattle.why.proofs.explain.Goals.{then-numbers-n-via-else-numbers-n+else-moments-n+else-numbers2-n+then-moments2-n}
 
 -- the run and the lists that were given, as they are known where the run was judged
 abbrev run : After-judge-r → Lines
@@ -41,12 +40,6 @@ so j =
     j.judge-r.ensures
     ∙ ap (λ (c : Cut). (judged j.args.p (run j) (record { input = 0; output = 0; cut = c }) (length j.args.stamp.now)).told) j.start.ensures
 
--- the lists are too short
-short : (j : After-judge-r) → j.judge-r.result.refusal ≡ 0 → length j.args.stamp.now ≤ most_lines
-    → shorter (one j) (length j.args.stamp.now) || shorter (two j) (length j.args.stamp.now) ≡ true
-    → (x : Reason) → x ≡ refused_by 9 → IsReason j.args.p (run j) x (one j) (two j) (one j) (two j)
-short j none few h = by_short j.args.p (run j) (one j) (two j) (good j) j.if-output-n.false j.if-action-n.false _ (so j) none few h
-
 -- what is known of the run where none of its lines is refused
 sized : (j : After-judge-r) → j.judge-r.result.refusal ≡ 0 → Sized (run j)
 sized j none = is_sized j.args.p (run j) (one j) (two j) (good j) j.if-output-n.false j.if-action-n.false _ (so j) none
@@ -62,11 +55,11 @@ returns-then-number-ne0 c = by_property _ _ _ _ c.refused-number.result c.refuse
 
 pub returns-then-output-n : goal.returns-then-output-n
 returns-then-output-n c =
-    by_output _ _ _ _ (sym c.refused-number.ensures ∙ c.if-number-ne0.false) c.if-output-n.true _ c.refused-then-output-n.ensures
-
-pub returns-then-action-n : goal.returns-then-action-n
-returns-then-action-n c =
-    by_action _ _ _ _ (sym c.refused-number.ensures ∙ c.if-number-ne0.false) c.if-action-n.true _ c.refused-then-action-n.ensures
+    let ok : property_refusal (meant c.args.p) ≡ 0 = sym c.refused-number.ensures ∙ c.if-number-ne0.false in
+    elim c.then-output-n.branch [
+      | then-output-n-via-then-output-n w ↦ by_output _ _ _ _ ok w.if-output-n.true _ c.refused-then-output-n.ensures
+      | then-output-n-via-else-output-n+then-action-n w ↦ by_action _ _ _ _ ok w.if-action-n.true _ c.refused-then-output-n.ensures
+    ]
 
 pub table-table-requires : goal.table-table-requires
 table-table-requires c = sym c.refused-number.ensures ∙ c.if-number-ne0.false
@@ -94,33 +87,15 @@ pub returns-then-numbers-n : goal.returns-then-numbers-n
 returns-then-numbers-n c =
     let j = (goal.at.returns-then-numbers-n c).After-judge-r in
     let n = length c.args.stamp.now in
-    short j c.if-r-ne0.false c.if-n-gt-MOST_LINES.false
-    (or_left (shorter (two j) n) (or_left (ltb (length c.args.moments.now) n) (lt-ltb _ _ c.if-numbers-n.true)))
-    _ c.refused-then-numbers-n.ensures
-
-pub returns-then-moments-n : goal.returns-then-moments-n
-returns-then-moments-n c =
-    let j = (goal.at.returns-then-moments-n c).After-judge-r in
-    let n = length c.args.stamp.now in
-    short j c.if-r-ne0.false c.if-n-gt-MOST_LINES.false
-    (or_left (shorter (two j) n) (or_right (ltb (length c.args.numbers.now) n) (lt-ltb _ _ c.if-moments-n.true)))
-    _ c.refused-then-moments-n.ensures
-
-pub returns-then-numbers2-n : goal.returns-then-numbers2-n
-returns-then-numbers2-n c =
-    let j = (goal.at.returns-then-numbers2-n c).After-judge-r in
-    let n = length c.args.stamp.now in
-    short j c.if-r-ne0.false c.if-n-gt-MOST_LINES.false
-    (or_right (shorter (one j) n) (or_left (ltb (length c.args.moments2.now) n) (lt-ltb _ _ c.if-numbers2-n.true)))
-    _ c.refused-then-numbers2-n.ensures
-
-pub returns-then-moments2-n : goal.returns-then-moments2-n
-returns-then-moments2-n c =
-    let j = (goal.at.returns-then-moments2-n c).After-judge-r in
-    let n = length c.args.stamp.now in
-    short j c.if-r-ne0.false c.if-n-gt-MOST_LINES.false
-    (or_right (shorter (one j) n) (or_right (ltb (length c.args.numbers2.now) n) (lt-ltb _ _ c.if-moments2-n.true)))
-    _ c.refused-then-moments2-n.ensures
+    let is-short : shorter (one j) n || shorter (two j) n ≡ true =
+    elim c.then-numbers-n.branch [
+      | then-numbers-n-via-then-numbers-n w ↦ or_left _ (or_left _ (lt-ltb _ _ w.if-numbers-n.true))
+      | then-numbers-n-via-else-numbers-n+then-moments-n w ↦ or_left _ (or_right _ (lt-ltb _ _ w.if-moments-n.true))
+      | then-numbers-n-via-else-numbers-n+else-moments-n+then-numbers2-n w ↦ or_right _ (or_left _ (lt-ltb _ _ w.if-numbers2-n.true))
+      | then-numbers-n-via-else-numbers-n+else-moments-n+else-numbers2-n+then-moments2-n w ↦ or_right _ (or_right _ (lt-ltb _ _ w.if-moments2-n.true))
+    ] in
+    by_short j.args.p (run j) (one j) (two j) (good j) c.if-output-n.false c.if-action-n.false _ (so j) c.if-r-ne0.false c.if-n-gt-MOST_LINES.false is-short _
+    c.refused-then-numbers-n.ensures
 
 pub write-requires : goal.write-requires
 write-requires c =
