@@ -53,13 +53,10 @@ pub fn strays(rows: &[Words], span: Span, j: usize, n: usize) -> bool
     requires { Room rows.now span × (3 + 2 * j < length rows.now) × (n ≤ 32) }
     ensures { result ≡ some_to span.count (λ i. Sets.stray n (cut_at rows.now span j i)) }
 {
-    let count = span.count;
-    let mut i = 0;
-    while i <= count {
+    for i in 0..=span.count {
         if matcher::stray(n, cut_at(rows, span, j, i)) {
             return true;
         }
-        i += 1;
     }
     false
 }
@@ -110,20 +107,17 @@ pub fn sweep(
     requires { Usable p rows.old span j × IsTable p table.now }
     ensures { Swept p span j action stamp rows.old rows.new }
 {
-    let count = span.count;
     let mut cut = matcher::moved(p, table, cut_at(rows, span, j, 0), true, action);
     put_cut(rows, span, j, 0, cut);
     let mut held = rows::word(rows, span, 0, 0);
     let mut input = rows::word(rows, span, 1, 0);
-    let mut i = 0;
-    while i < count {
+    for i in 0..span.count {
         let next = i + 1;
         let after = cut_at(rows, span, j, next);
         cut = swept_cut(p, table, action, stamp, held, input, cut, after);
         put_cut(rows, span, j, next, cut);
         held = rows::word(rows, span, 0, next);
         input = rows::word(rows, span, 1, next);
-        i = next;
     }
 }
 
@@ -132,10 +126,9 @@ pub fn append(p: Property, table: &Table, rows: &mut [Words], span: Span, j: usi
     requires { Usable p rows.old span j × IsTable p table.now × (span.count < 64) }
     ensures { Appended p span j action rows.old rows.new }
 {
-    let count = span.count;
-    let last = cut_at(rows, span, j, count);
+    let last = cut_at(rows, span, j, span.count);
     let cut = matcher::moved(p, table, last, false, action);
-    put_cut(rows, span, j, count + 1, cut);
+    put_cut(rows, span, j, span.count + 1, cut);
 }
 
 // One line of a run, taken: the first `closed` open inputs give their places up, then an output goes through the cuts, or an

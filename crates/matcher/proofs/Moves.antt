@@ -16,7 +16,7 @@ use Rattle.laws.specs.Bits.{bit}
 use Rattle.property.specs.Meant.{action_of, meant}
 use Rattle.property.specs.declared.Property.{Property}
 use Rattle.matcher.specs.Sets.{stepped, arranged}
-use Rattle.table.specs.Table.{action_at, row_of, IsTable}
+use Rattle.table.specs.Table.{said, action_of_place, row_of, IsTable}
 use Rattle.laws.proofs.Bits.{bit_low, bit-above, bit-none, bit-one}
 use Rattle.meaning.proofs.Tests.{some_to_agree, some_to-none}
 use Rattle.meaning.proofs.Lengths.{fall_back-le}
@@ -118,7 +118,7 @@ module _ (p : Property) (table : List ℕ) (is : IsTable p table) (output : Bool
   entry_is k h = ap (λ (x : ℕ). get_or table (x + k) 0) row ∙ is.looked_up output action k h
 
   long : length (meant p).sequence ≡ p.n
-  long = length-first (action_at p.output p.number) p.n
+  long = length-first (λ i. said (action_of_place p i)) p.n
 
   pub entry-le : (k : ℕ) → k ≤ p.n → get_or table (at + k) 0 ≤ p.n
   entry-le k h =

@@ -14,7 +14,7 @@ use Rattle.meaning.specs.Words.{Line}
 use Rattle.meaning.specs.Matcher.{some_to, is_input, outside, moved}
 use Rattle.meaning.specs.Numbers.{property_refusal}
 use Rattle.laws.specs.Bits.{bit}
-use Rattle.laws.proofs.Bits.{bit-or, bit-none}
+use Rattle.laws.proofs.Bits.{bit-zero, bit-or, bit-none}
 use Rattle.property.specs.Meant.{action_of, meant}
 use Rattle.property.specs.declared.Property.{Property}
 use Rattle.matcher.specs.declared.Cut.{Cut}
@@ -22,7 +22,7 @@ use Rattle.matcher.specs.Sets.{set_of, Fits, stepped, arranged, Arranged, Moved}
 use Rattle.table.specs.Table.{row_of, IsTable}
 use Rattle.table.proofs.TableRows.{row_le}
 use Rattle.matcher.proofs.Moves.{entry-le, moved-input, moved-allowed, moved-outside}
-use Rattle.matcher.proofs.Words.{fits_parts, parts_fit, armed-lt, armed_is, some_in_mask, bit-with, lowest_digit}
+use Rattle.matcher.proofs.Words.{fits_parts, parts_fit, armed-lt, armed_is, some_in_mask, put_bit, broken_told}
 
 -- A mask that is not 0, tested as the code tests it.
 pub some_test : (m : ℕ) → ltb 0 m ≡ not (eqb m 0)
@@ -71,23 +71,23 @@ module _ (p : Property) (formed : property_refusal (meant p) ≡ 0) (table : Lis
   input_of e = (ap (λ (o : Bool). is_input (action_of o action)) e, ap (λ (o : Bool). outside (meant p) (action_of o action)) e)
 
   pub input_moves : output ≡ false → {free still : ℕ} {r : Cut} → Steps cut.mask free → Steps (cut.armed / 2) still
-      → Arranged p.n free still (cut.armed % 2) r → Moved p cut (action_of output action) r
+      → Arranged p.n free still (cond (eqb (cut.armed % 2) 1) 1 0) r → Moved p cut (action_of output action) r
   unfolding set_of
   input_moves e {free} {still} {r} x y a =
       finish a
       (λ t.
       same-arranged (steps_is cut.mask free x)
       (steps_is (cut.armed / 2) still y ∙ ap (stepped p.n (λ k. get_or table (at + k) 0)) (sym (armed_is cut.armed)))
-      (lowest_digit cut.armed)
+      (broken_told cut.armed)
       ∙ moved-input p table is output action at row (set_of cut) t (input_of e).0 (input_of e).1)
 
   pub allowed_moves : output ≡ true → outside (meant p) (action_of output action) ≡ false → {all free : ℕ} {r : Cut} → all ≡ bit_or cut.mask (cut.armed / 2)
-      → Steps all free → Arranged p.n free 0 (cut.armed % 2) r → Moved p cut (action_of output action) r
+      → Steps all free → Arranged p.n free 0 (cond (eqb (cut.armed % 2) 1) 1 0) r → Moved p cut (action_of output action) r
   unfolding set_of
   allowed_moves e o {all} {free} {r} q x a =
       finish a
       (λ t.
-      same-arranged (steps_is all free x ∙ ap (stepped p.n (λ k. get_or table (at + k) 0)) joined) none (lowest_digit cut.armed)
+      same-arranged (steps_is all free x ∙ ap (stepped p.n (λ k. get_or table (at + k) 0)) joined) none (broken_told cut.armed)
       ∙ moved-allowed p table is output action at row (set_of cut) t (ap (λ (d : Bool). is_input (action_of d action)) e) o)
     where
       joined : bit all ≡ (λ (k : ℕ). bit cut.mask k || bit cut.armed (suc k))
@@ -97,17 +97,15 @@ module _ (p : Property) (formed : property_refusal (meant p) ≡ 0) (table : Lis
           ap (λ (m : ℕ). bit m k) q ∙ bit-or cut.mask (cut.armed / 2) k
           ∙ ap (λ (f : ℕ → Bool). bit cut.mask k || f k) (sym (armed_is cut.armed)))
 
-  pub outside_moves : outside (meant p) (action_of output action) ≡ true → {free broken : ℕ} {r : Cut}
-      → broken ≡ cond (ltb 0 (cut.armed / 2)) 1 (cut.armed % 2)
-      → Steps cut.mask free → Arranged p.n free 0 broken r → Moved p cut (action_of output action) r
+  pub outside_moves : outside (meant p) (action_of output action) ≡ true → {free : ℕ} {r : Cut}
+      → Steps cut.mask free → Arranged p.n free 0 (cond (eqb (cut.armed % 2) 1 || ltb 0 (cut.armed / 2)) 1 0) r → Moved p cut (action_of output action) r
   unfolding set_of
-  outside_moves o {free} {broken} {r} q x a =
+  outside_moves o {free} {r} x a =
       finish a
       (λ t.
       same-arranged (steps_is cut.mask free x) none
-      (ap (λ (m : ℕ). bit m 0) q
-      ∙ bit-with (cut.armed % 2) (ltb 0 (cut.armed / 2)) (omega arith)
-      ∙ ap₂ (λ (u v : Bool). u || v) (lowest_digit cut.armed)
+      (put_bit (eqb (cut.armed % 2) 1 || ltb 0 (cut.armed / 2))
+      ∙ ap₂ (λ (u v : Bool). u || v) (sym (bit-zero cut.armed))
       (some_test (cut.armed / 2)
       ∙ sym (some_in_mask p.n (cut.armed / 2) (armed-lt p.n cut.armed (fits_parts p cut fits).1))
       ∙ ap (some_to p.n) (sym (armed_is cut.armed))))

@@ -27,7 +27,7 @@ use Rattle.laws.proofs.Places.{length-first}
 use Rattle.property.specs.Meant.{meant}
 use Rattle.property.specs.declared.Property.{Property}
 use Rattle.matcher.specs.declared.Cut.{Cut}
-use Rattle.table.specs.Table.{action_at}
+use Rattle.table.specs.Table.{said, action_of_place}
 use Rattle.matcher.specs.Sets.{set_of, armed_bits, cut_of, stray, Fits, set_verdict, Short, arranged, Arranged}
 use Rattle.matcher.proofs.Moves.{below-whole, whole-alone}
 
@@ -71,7 +71,7 @@ module _ (p : Property) (formed : property_refusal (meant p) ≡ 0) where
   wide = pow_mono {i = suc p.n} {j = 64} (omega (arith, few))
 
   long : length (meant p).sequence ≡ p.n
-  long = length-first (action_at p.output p.number) p.n
+  long = length-first (λ i. said (action_of_place p i)) p.n
 
   wider : 2 ^ suc (suc p.n) ≤ 2 ^ 64
   wider = pow_mono {i = suc (suc p.n)} {j = 64} (omega (arith, few))
@@ -182,7 +182,7 @@ unbroken_read p c e =
   where
     plain : (f : ℕ → Bool) → some_to (length (meant p).sequence) (λ k. f k && true) ≡ some_to p.n f
     plain f =
-        ap (λ (n : ℕ). some_to n (λ k. f k && true)) (length-first (action_at p.output p.number) p.n)
+        ap (λ (n : ℕ). some_to n (λ k. f k && true)) (length-first (λ i. said (action_of_place p i)) p.n)
         ∙ some_to_agree p.n (λ k. f k && true) f (λ k h. and-true (f k))
 
 pub verdict-read : (p : Property) (c : Cut) → Fits p c → (b u : Bool) → b ≡ bit c.armed 0 → u ≡ not (eqb c.mask 0) || not (eqb (c.armed / 2) 0)
@@ -211,21 +211,18 @@ joined_fits p a b h k =
 
 -- ---- the words that the code puts together
 
--- broken, where it is set
-pub bit-with : (m : ℕ) (b : Bool) → m < 2 → bit (cond b 1 m) 0 ≡ bit m 0 || b
-bit-with zero true h = refl
-bit-with zero false h = refl
-bit-with (suc zero) true h = refl
-bit-with (suc zero) false h = refl
-bit-with (suc (suc m)) b h = let z : ⊥ = omega arith in absurd z
+-- broken, put into bit 0
+pub put_bit : (b : Bool) → bit (cond b 1 0) 0 ≡ b
+put_bit true = refl
+put_bit false = refl
 
-pub with-lt : (m : ℕ) (b : Bool) → m < 2 → cond b 1 m < 2
-with-lt m true h = omega arith
-with-lt m false h = h
+pub put_lt : (b : Bool) → cond b 1 0 < 2
+put_lt true = omega arith
+put_lt false = omega arith
 
--- bit 0 of the armed word, told from its last digit
-pub lowest_digit : (m : ℕ) → bit (m % 2) 0 ≡ bit m 0
-lowest_digit m = bit-zero (m % 2) ∙ ap (λ (x : ℕ). eqb x 1) (let e : m % 2 % 2 ≡ m % 2 = omega arith in e) ∙ sym (bit-zero m)
+-- and told from the last digit
+pub broken_told : (m : ℕ) → bit (cond (eqb (m % 2) 1) 1 0) 0 ≡ bit m 0
+broken_told m = put_bit (eqb (m % 2) 1) ∙ sym (bit-zero m)
 
 module _ (n free still broken : ℕ) (f : free < 2 ^ suc n) (s : still < 2 ^ suc n) (b : broken < 2) where
   up_lt : bit_or (free - free % 2 ^ n) still < 2 ^ suc n

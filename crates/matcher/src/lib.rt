@@ -24,8 +24,6 @@ pub struct Cut {
     pub armed: u64,
 }
 
-const BROKEN: u64 = 1;
-
 // Nothing matched yet.
 pub fn start() -> Cut
     ensures { result ≡ cut_of Matcher.at_start }
@@ -45,10 +43,7 @@ pub fn stray(n: usize, cut: Cut) -> bool
     requires { n ≤ 32 }
     ensures { result ≡ Sets.stray n cut }
 {
-    if 0 < cut.mask >> (n + 1) {
-        return true;
-    }
-    0 < cut.armed >> (n + 2)
+    0 < cut.mask >> (n + 1) || 0 < cut.armed >> (n + 2)
 }
 
 // The verdict's number, where the set is that of every explanation.
@@ -58,13 +53,11 @@ pub fn verdict(cut: Cut) -> u8
     if cut.armed % 2 == 0 {
         return 0;
     }
-    if 0 < cut.mask {
-        return 1;
+    if 0 < cut.mask || 0 < cut.armed / 2 {
+        1
+    } else {
+        2
     }
-    if 0 < cut.armed / 2 {
-        return 1;
-    }
-    2
 }
 
 // The set of lengths that a set goes to by a row of the table.
@@ -76,9 +69,9 @@ fn step(table: &Table, at: usize, n: usize, mask: u64) -> u64
     let mut rest = mask;
     let mut r = 0u64;
     while rest != 0 {
-        let k = u64::trailing_zeros(rest) as usize;
-        r = r | (1u64 << table[at + k]);
-        rest = rest & (rest - 1);
+        let k = rest.trailing_zeros() as usize;
+        r |= 1u64 << table[at + k];
+        rest &= rest - 1;
     }
     r
 }
@@ -87,42 +80,19 @@ fn step(table: &Table, at: usize, n: usize, mask: u64) -> u64
 fn outside(allowed: u64, output: bool, action: u64) -> bool
     ensures { (p : Property) → p.allowed ≡ allowed → result ≡ Matcher.outside (meant p) (action_of output action) }
 {
-    if output {
-        if action <= LAST_ACTION as u64 {
-            return (allowed >> action) % 2 != 1;
-        }
-        return true;
-    }
-    false
-}
-
-// Broken, if it was or is now.
-fn with_broken(before: u64, broken: bool) -> u64
-    ensures { result ≡ cond broken 1 before }
-{
-    if broken {
-        return BROKEN;
-    }
-    before
-}
-
-// Lengths of two masks together.
-fn both(a: u64, b: u64) -> u64
-    ensures { (result ≡ bit_or a b) × ((w : ℕ) → a < 2 ^ w → b < 2 ^ w → result < 2 ^ w) }
-{
-    a | b
+    output && (u64::from(LAST_ACTION) < action || (allowed >> action) % 2 != 1)
 }
 
 // The words of the lengths that are not armed or are so no more, those that stay armed, and broken: a whole match is armed too.
-fn arranged(n: usize, free: u64, still: u64, broken: u64) -> Cut
-    requires { (n ≤ 32) × (free < 2 ^ suc n) × (still < 2 ^ suc n) × (broken < 2) }
-    ensures { Arranged n free still broken result }
+fn arranged(n: usize, free: u64, still: u64, broken: bool) -> Cut
+    requires { (n ≤ 32) × (free < 2 ^ suc n) × (still < 2 ^ suc n) }
+    ensures { Arranged n free still (cond broken 1 0) result }
 {
     let low = free & ((1u64 << n) - 1);
-    let up = both(free - low, still);
+    let up = (free - low) | still;
     Cut {
         mask: low,
-        armed: up * 2 + broken,
+        armed: up * 2 + u64::from(broken),
     }
 }
 
@@ -132,21 +102,20 @@ pub fn moved(p: Property, table: &Table, cut: Cut, output: bool, action: u64) ->
     requires { (property_refusal (meant p) ≡ 0) × IsTable p table.now × Fits p cut }
     ensures { Moved p cut (action_of output action) result }
 {
-    let n = p.n;
     let at = table::row(output, action);
     let armed_lengths = cut.armed / 2;
-    let broken = cut.armed % 2;
-    if output {
-        if outside(p.allowed, output, action) {
-            let free = step(table, at, n, cut.mask);
-            return arranged(n, free, 0, with_broken(broken, 0 < armed_lengths));
-        }
-        let free = step(table, at, n, both(cut.mask, armed_lengths));
-        return arranged(n, free, 0, broken);
+    let broken = cut.armed % 2 == 1;
+    if outside(p.allowed, output, action) {
+        let free = step(table, at, p.n, cut.mask);
+        return arranged(p.n, free, 0, broken || 0 < armed_lengths);
     }
-    let free = step(table, at, n, cut.mask);
-    let still = step(table, at, n, armed_lengths);
-    arranged(n, free, still, broken)
+    if output {
+        let free = step(table, at, p.n, cut.mask | armed_lengths);
+        return arranged(p.n, free, 0, broken);
+    }
+    let free = step(table, at, p.n, cut.mask);
+    let still = step(table, at, p.n, armed_lengths);
+    arranged(p.n, free, still, broken)
 }
 
 // Two sets joined.

@@ -56,12 +56,8 @@ pub type Block = [Words; 4];
 pub fn rows_of(s: Session) -> Block
     ensures { (result ≡ rows_of s) × (length result ≡ 4) × ((span : Span) → Within span → Room result span) }
 {
-    let shared = s.shared;
-    let row = s.row;
-    let held = shared.held;
-    let acts = shared.acts;
-    let masks = row.masks;
-    let armed = row.armed;
+    let Shared { held, acts, .. } = s.shared;
+    let Row { masks, armed } = s.row;
     [held, acts, masks, armed]
 }
 
@@ -69,31 +65,18 @@ pub fn rows_of(s: Session) -> Block
 pub fn unfit(s: Session) -> bool
     ensures { result ≡ out_of_range s }
 {
-    let p = s.property;
-    if property::refused(p) != 0 {
-        return true;
-    }
-    let shared = s.shared;
-    let status = shared.status;
-    let span = status.span;
-    let clock = status.clock;
-    if LAST_PLACE < span.start {
-        return true;
-    }
-    if MOST_OPEN < span.count {
+    let Status { span, clock } = s.shared.status;
+    if property::refused(s.property) != 0 || LAST_PLACE < span.start || MOST_OPEN < span.count {
         return true;
     }
     let rows = rows_of(s);
-    if held::falls(&rows, span, clock.latest) {
-        return true;
-    }
-    if LAST_STAMP < clock.latest {
+    if held::falls(&rows, span, clock.latest) || LAST_STAMP < clock.latest {
         return true;
     }
     if clock.blind {
         return 0 < span.count;
     }
-    cuts::strays(&rows, span, 0, p.n)
+    cuts::strays(&rows, span, 0, s.property.n)
 }
 
 // Two rows, from the first place on: of the open inputs, or of the cuts.
@@ -110,16 +93,11 @@ fn packed(rows: &[Words], span: Span, k: usize, n: usize) -> Pair
 {
     let mut first = [0u64; 65];
     let mut second = [0u64; 65];
-    let mut i = 0;
-    while i < n {
+    for i in 0..n {
         first[i] = rows::word(rows, span, k, i);
         second[i] = rows::word(rows, span, k + 1, i);
-        i += 1;
     }
-    Pair {
-        first: first,
-        second: second,
-    }
+    Pair { first, second }
 }
 
 // The record of arrays and what stands beside them, as they are.
@@ -133,19 +111,10 @@ pub fn of_arrays(
 ) -> Session
     ensures { result ≡ of_arrays p held acts masks armed status }
 {
-    let shared = Shared {
-        held: held,
-        acts: acts,
-        status: status,
-    };
-    let row = Row {
-        masks: masks,
-        armed: armed,
-    };
     Session {
         property: p,
-        shared: shared,
-        row: row,
+        shared: Shared { held, acts, status },
+        row: Row { masks, armed },
     }
 }
 
@@ -156,15 +125,18 @@ fn stored(p: Property, rows: &[Words], span: Span, cuts: usize, clock: Clock) ->
 {
     let inputs = packed(rows, span, 0, span.count);
     let words = packed(rows, span, 2, cuts);
-    let held = inputs.first;
-    let acts = inputs.second;
-    let masks = words.first;
-    let armed = words.second;
     let status = Status {
         span: rows::spanning(span.count),
-        clock: clock,
+        clock,
     };
-    of_arrays(p, held, acts, masks, armed, status)
+    of_arrays(
+        p,
+        inputs.first,
+        inputs.second,
+        words.first,
+        words.second,
+        status,
+    )
 }
 
 // How many cuts are in use: one before each open input and one after all, and none while blind.
@@ -172,10 +144,7 @@ fn cuts_in_use(count: usize, blind: bool) -> usize
     requires { count ≤ 64 }
     ensures { (result ≡ cond blind 0 (count + 1)) × (result ≤ 65) }
 {
-    if blind {
-        return 0;
-    }
-    count + 1
+    if blind { 0 } else { count + 1 }
 }
 
 // The record for the caller, of what the rows hold: nothing stands in places not in use.
@@ -183,10 +152,8 @@ pub fn made(p: Property, rows: &[Words], status: Status) -> Session
     requires { Ready (memory p rows.now status) }
     ensures { result ≡ record_in (memory p rows.now status) }
 {
-    let span = status.span;
-    let clock = status.clock;
-    let cuts = cuts_in_use(span.count, clock.blind);
-    stored(p, rows, span, cuts, clock)
+    let cuts = cuts_in_use(status.span.count, status.clock.blind);
+    stored(p, rows, status.span, cuts, status.clock)
 }
 
 // A record with no open input, its one cut as given.

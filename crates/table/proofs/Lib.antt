@@ -1,4 +1,5 @@
 pub mod Recursion
 pub mod TableRows
-pub mod FromArrays
+pub mod Sequences
+pub mod Endings
 pub mod Falling

@@ -11,7 +11,8 @@ use borrow.Author.Tests.{leb-true, leb-false, le-leb, eqb-true, eqb-false}
 use Rattle.meaning.specs.Words.{Action}
 use Rattle.meaning.specs.Matcher.{same, fall_back}
 use Rattle.property.specs.Meant.{action_of}
-use Rattle.table.specs.Table.{action_at, row_of, row_entry, RowRight, RowFilled, Made}
+use Rattle.table.specs.Table.{no_action, at_place, row_of, row_entry, RowRight, RowFilled, Made}
+use Rattle.table.specs.declared.Action as declared
 use Rattle.table.proofs.Recursion.{fall_back_unnamed}
 
 pub row_le : (output : Bool) (action : ℕ) → row_of output action ≤ 4224
@@ -71,23 +72,23 @@ pub RowEmpty : ℕ → Bool → ℕ → List ℕ → Type 0
 RowEmpty n output action t = (k : ℕ) → k ≤ n → get_or t (row_of output action + k) 0 ≡ 0
 
 -- The row of the action at place j of a sequence, and that it is right.
-abbrev row_at : List Bool → List ℕ → ℕ → ℕ
-row_at outputs numbers j = row_of (get_or outputs j false) (get_or numbers j 0)
+abbrev row_at : List declared.Action → ℕ → ℕ
+row_at acts j = row_of (get_or acts j no_action).output (get_or acts j no_action).number
 
-abbrev RightAt : List Bool → List ℕ → ℕ → ℕ → List ℕ → Type 0
-RightAt outputs numbers n j t = RowRight (action_at outputs numbers) n (get_or outputs j false) (get_or numbers j 0) t
+abbrev RightAt : List declared.Action → ℕ → ℕ → List ℕ → Type 0
+RightAt acts n j t = RowRight (at_place acts) n (get_or acts j no_action).output (get_or acts j no_action).number t
 
 -- The table while it is made: the rows of the first i places are right, and every row is right or empty.
-pub record Making (outputs : List Bool) (numbers : List ℕ) (n i : ℕ) (t : List ℕ) : Type 0 where
+pub record Making (acts : List declared.Action) (n i : ℕ) (t : List ℕ) : Type 0 where
   pub long : length t ≡ 4257
-  pub named : (j : ℕ) → j < i → RightAt outputs numbers n j t
-  pub each : (output : Bool) (action : ℕ) → RowRight (action_at outputs numbers) n output action t ⊎ RowEmpty n output action t
+  pub named : (j : ℕ) → j < i → RightAt acts n j t
+  pub each : (output : Bool) (action : ℕ) → RowRight (at_place acts) n output action t ⊎ RowEmpty n output action t
 
-module _ (outputs : List Bool) (numbers : List ℕ) (n : ℕ) (few : n ≤ 32) where
+module _ (acts : List declared.Action) (n : ℕ) (few : n ≤ 32) where
   abbrev Right : Bool → ℕ → List ℕ → Type 0
-  Right output action t = RowRight (action_at outputs numbers) n output action t
+  Right output action t = RowRight (at_place acts) n output action t
 
-  pub making_none : (t : List ℕ) → length t ≡ 4257 → ((i : ℕ) → get_or t i 0 ≡ 0) → Making outputs numbers n 0 t
+  pub making_none : (t : List ℕ) → length t ≡ 4257 → ((i : ℕ) → get_or t i 0 ≡ 0) → Making acts n 0 t
   unfolding RowEmpty
   making_none t l z =
       record {
@@ -97,55 +98,55 @@ module _ (outputs : List Bool) (numbers : List ℕ) (n : ℕ) (few : n ≤ 32) w
       }
 
   -- One more place has its row.
-  one_more : (i : ℕ) (t : List ℕ) → ((j : ℕ) → j < i → RightAt outputs numbers n j t) → RightAt outputs numbers n i t
-      → (j : ℕ) → j < i + 1 → RightAt outputs numbers n j t
+  one_more : (i : ℕ) (t : List ℕ) → ((j : ℕ) → j < i → RightAt acts n j t) → RightAt acts n i t
+      → (j : ℕ) → j < i + 1 → RightAt acts n j t
   one_more i t named here j h = go (eqb j i) (eqb-true j i) (eqb-false j i)
     where
-      go : (b : Bool) → (b ≡ true → j ≡ i) → (b ≡ false → j ≡ i → ⊥) → RightAt outputs numbers n j t
-      go true e d = subst (λ (x : ℕ). RightAt outputs numbers n x t) (sym (e refl)) here
+      go : (b : Bool) → (b ≡ true → j ≡ i) → (b ≡ false → j ≡ i → ⊥) → RightAt acts n j t
+      go true e d = subst (λ (x : ℕ). RightAt acts n x t) (sym (e refl)) here
       go false e d = let q : j ≡ i → ⊥ = d refl in named j (omega arith)
 
   -- A row that is not right yet is filled.
-  module _ (i : ℕ) (t u : List ℕ) (m : Making outputs numbers n i t) (number-le : get_or numbers i 0 ≤ 63)
-      (f : RowFilled (action_at outputs numbers) n (get_or outputs i false) (get_or numbers i 0) t u) where
-    right_now : RightAt outputs numbers n i u
+  module _ (i : ℕ) (t u : List ℕ) (m : Making acts n i t) (number-le : (get_or acts i no_action).number ≤ 63)
+      (f : RowFilled (at_place acts) n (get_or acts i no_action).output (get_or acts i no_action).number t u) where
+    right_now : RightAt acts n i u
     right_now k h =
-        f.inside (row_at outputs numbers i + k) (omega arith) (omega arith)
-        ∙ row_entry-at (action_at outputs numbers) n (get_or outputs i false) (get_or numbers i 0) (row_at outputs numbers i) k refl
+        f.inside (row_at acts i + k) (omega arith) (omega arith)
+        ∙ row_entry-at (at_place acts) n (get_or acts i no_action).output (get_or acts i no_action).number (row_at acts i) k refl
 
-    kept : (output : Bool) (action k : ℕ) → k ≤ n → Beside (row_of output action) (row_at outputs numbers i)
+    kept : (output : Bool) (action k : ℕ) → k ≤ n → Beside (row_of output action) (row_at acts i)
         → get_or u (row_of output action + k) 0 ≡ get_or t (row_of output action + k) 0
     kept output action k h (inl e) = f.below (row_of output action + k) (omega arith)
     kept output action k h (inr e) = f.above (row_of output action + k) (omega arith)
 
     -- the row just made
-    right_there : (output : Bool) (action : ℕ) → output ≡ get_or outputs i false → action ≡ get_or numbers i 0 → Right output action u
+    right_there : (output : Bool) (action : ℕ) → output ≡ (get_or acts i no_action).output → action ≡ (get_or acts i no_action).number → Right output action u
     right_there output action e f = λ k h.
         ap₂ (λ (o : Bool) (a : ℕ). get_or u (row_of o a + k) 0) e f
         ∙ right_now k h
-        ∙ ap₂ (λ (o : Bool) (a : ℕ). fall_back (action_at outputs numbers) n k (action_of o a) k) (sym e) (sym f)
+        ∙ ap₂ (λ (o : Bool) (a : ℕ). fall_back (at_place acts) n k (action_of o a) k) (sym e) (sym f)
 
     still_right : (output : Bool) (action : ℕ) → Right output action t → Right output action u
     unfolding Apart
-    still_right output action r = go (rows_apart output action (get_or outputs i false) (get_or numbers i 0) number-le)
+    still_right output action r = go (rows_apart output action (get_or acts i no_action).output (get_or acts i no_action).number number-le)
       where
-        go : Apart output action (get_or outputs i false) (get_or numbers i 0) → Right output action u
+        go : Apart output action (get_or acts i no_action).output (get_or acts i no_action).number → Right output action u
         go (inl e) = right_there output action e.0 e.1
         go (inr e) = λ k h. kept output action k h e ∙ r k h
 
     still_empty : (output : Bool) (action : ℕ) → RowEmpty n output action t → Right output action u ⊎ RowEmpty n output action u
     unfolding Apart RowEmpty
-    still_empty output action r = go (rows_apart output action (get_or outputs i false) (get_or numbers i 0) number-le)
+    still_empty output action r = go (rows_apart output action (get_or acts i no_action).output (get_or acts i no_action).number number-le)
       where
-        go : Apart output action (get_or outputs i false) (get_or numbers i 0) → Right output action u ⊎ RowEmpty n output action u
+        go : Apart output action (get_or acts i no_action).output (get_or acts i no_action).number → Right output action u ⊎ RowEmpty n output action u
         go (inl e) = inl (right_there output action e.0 e.1)
         go (inr e) = inr (λ k h. kept output action k h e ∙ r k h)
 
-    pub making_filled : Making outputs numbers n (i + 1) u
+    pub making_filled : Making acts n (i + 1) u
     making_filled =
         record {
           long = f.long ∙ m.long;
-          named = one_more i u (λ j h. still_right (get_or outputs j false) (get_or numbers j 0) (m.named j h)) right_now;
+          named = one_more i u (λ j h. still_right (get_or acts j no_action).output (get_or acts j no_action).number (m.named j h)) right_now;
           each = λ output action. each output action (m.each output action);
         }
       where
@@ -154,17 +155,17 @@ module _ (outputs : List Bool) (numbers : List ℕ) (n : ℕ) (few : n ≤ 32) w
         each output action (inr r) = still_empty output action r
 
   -- A row that is right already is left.
-  module _ (i : ℕ) (t : List ℕ) (m : Making outputs numbers n i t) (h : i < n) (e : get_or t (row_at outputs numbers i + i) 0 ≡ 0 → ⊥) where
-    right_already : RightAt outputs numbers n i t ⊎ RowEmpty n (get_or outputs i false) (get_or numbers i 0) t → RightAt outputs numbers n i t
+  module _ (i : ℕ) (t : List ℕ) (m : Making acts n i t) (h : i < n) (e : get_or t (row_at acts i + i) 0 ≡ 0 → ⊥) where
+    right_already : RightAt acts n i t ⊎ RowEmpty n (get_or acts i no_action).output (get_or acts i no_action).number t → RightAt acts n i t
     unfolding RowEmpty
     right_already (inl r) = r
     right_already (inr r) = absurd (e (r i (omega arith)))
 
-    pub making_left : Making outputs numbers n (i + 1) t
+    pub making_left : Making acts n (i + 1) t
     making_left =
         record {
           long = m.long;
-          named = one_more i t m.named (right_already (m.each (get_or outputs i false) (get_or numbers i 0)));
+          named = one_more i t m.named (right_already (m.each (get_or acts i no_action).output (get_or acts i no_action).number));
           each = m.each;
         }
 
@@ -195,20 +196,20 @@ named? s a (suc i) = go (same (s i) a) refl (named? s a i)
         last j h false y n = let q : j ≡ i → ⊥ = n refl in d j (omega arith)
 
 -- When all places have had their row, every row is right.
-pub made : (outputs : List Bool) (numbers : List ℕ) (n i : ℕ) (t : List ℕ) → n ≤ i → Making outputs numbers n i t → Made (action_at outputs numbers) n t
+pub made : (acts : List declared.Action) (n i : ℕ) (t : List ℕ) → n ≤ i → Making acts n i t → Made (at_place acts) n t
 unfolding Named RowEmpty
-made outputs numbers n i t l m =
+made acts n i t l m =
     record { right = λ output action. go output action (m.each output action) (named? s (action_of output action) n) }
   where
     s : ℕ → Action
-    s = action_at outputs numbers
+    s = at_place acts
 
     go : (output : Bool) (action : ℕ) → RowRight s n output action t ⊎ RowEmpty n output action t → Named s (action_of output action) n
         → RowRight s n output action t
     go output action (inl r) d = r
     go output action (inr r) (inl d) =
-        let q = same_parts (get_or outputs d.0 false) (get_or numbers d.0 0) output action d.1.1 in
+        let q = same_parts (get_or acts d.0 no_action).output (get_or acts d.0 no_action).number output action d.1.1 in
         let h : d.0 < n = d.1.0 in
         subst (λ (o : Bool). RowRight s n o action t) q.0
-        (subst (λ (x : ℕ). RowRight s n (get_or outputs d.0 false) x t) q.1 (m.named d.0 (omega arith)))
+        (subst (λ (x : ℕ). RowRight s n (get_or acts d.0 no_action).output x t) q.1 (m.named d.0 (omega arith)))
     go output action (inr r) (inr d) = λ k h. r k h ∙ sym (fall_back_unnamed s n k (action_of output action) d k)

@@ -1,15 +1,30 @@
 -- The table of the matcher's steps, made once for a property and lent to the rest.
-use Rattle.std.specs.Prelude.{ℕ, ◌+◌, ◌*◌, ◌-◌, ◌≤◌, ◌<◌, ◌≡◌, Bool, true, false, cond, List, get_or, leb}
+use Rattle.std.specs.Prelude.{ℕ, ◌+◌, ◌*◌, ◌-◌, ◌≤◌, ◌<◌, ◌≡◌, Bool, true, false, cond, List, length, get_or, leb}
 use Rattle.laws.specs.Filled.{Filled}
 use Rattle.meaning.specs.Words.{Action}
 use Rattle.meaning.specs.Limits.{last_action}
 use Rattle.meaning.specs.Matcher.{ends, fall_back, matched_next}
 use Rattle.property.specs.Meant.{action_of, meant}
 use Rattle.property.specs.declared.Property.{Property}
+use Rattle.table.specs.declared.Action as declared
 
--- The action at a place of the arrays that hold a sequence.
-abbrev pub action_at : List Bool → List ℕ → ℕ → Action
-action_at outputs numbers i = action_of (get_or outputs i false) (get_or numbers i 0)
+-- What an action of a sequence means, and the action at a place of the sequence; behind its end an action that stands for none.
+abbrev pub said : declared.Action → Action
+said a = action_of a.output a.number
+
+abbrev pub no_action : declared.Action
+no_action = record { output = false; number = 0 }
+
+abbrev pub at_place : List declared.Action → ℕ → Action
+at_place s i = said (get_or s i no_action)
+
+-- The action at a place of a property's arrays.
+abbrev pub action_of_place : Property → ℕ → declared.Action
+action_of_place p i = record { output = get_or p.output i false; number = get_or p.number i 0 }
+
+-- No number is above 63.
+abbrev pub Numbered : List declared.Action → Type 0
+Numbered s = (i : ℕ) → i < length s → (get_or s i no_action).number ≤ last_action
 
 -- "the longest shorter beginning of the sequence that ends there": f is its length, for the first k.
 pub record Shorter (s : ℕ → Action) (k f : ℕ) : Type 0 where

@@ -1,5 +1,5 @@
 -- `cuts::strays` meets its contract. The loop: no cut passed is stray.
-use Prim.Native.Nat.{ℕ, ◌+◌, ◌-◌, ◌≤◌, ◌<◌}
+use Prim.Native.Nat.{ℕ, ◌<◌}
 use mathlib.Core.Path.{◌≡◌}
 use mathlib.Core.Bool.{false}
 use Rattle.matcher.specs.Sets.{stray}
@@ -7,7 +7,4 @@ use Rattle.cuts.specs.Fronts.{cut_at}
 use Rattle.cuts.proofs.strays.Given as goal
 
 abbrev pub invariant-loop-i : goal.invariant-loop-i
-invariant-loop-i l = (l.i ≤ l.span.count + 1) × ((k : ℕ) → k < l.i → stray l.n (cut_at l.rows l.span l.j k) ≡ false)
-
-abbrev pub decreases-loop-i : goal.decreases-loop-i
-decreases-loop-i l = l.span.count + 1 - l.i
+invariant-loop-i l = (k : ℕ) → k < l.i → stray l.n (cut_at l.rows l.span l.j k) ≡ false

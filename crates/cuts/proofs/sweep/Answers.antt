@@ -71,7 +71,6 @@ loop-i-init c =
     let u = c.requires.0 in
     let cut = c.moved-cut in
     let mid = c.put_cut.new.rows in (
-      omega arith,
       sweeping_first a.p mid a.span a.j a.action a.stamp (set_of cut.result) cut.result
           (stored_room a.rows.now mid a.span a.j cut.result u.room u.there 0 (omega arith) c.put_cut.ensures)
           (first a.rows.now mid a.span a.j cut.result u.room u.there c.put_cut.ensures) refl cut.ensures.fits,
@@ -86,8 +85,8 @@ cut_at-after-requires c =
     let a = c.args in
     let u = c.requires.0 in
     let w = c.loop-i in (
-      w.invariant.1.room,
-      loop-there a.rows.now c.put_cut.new.rows a.span a.j c.moved-cut.result u.room u.there c.put_cut.ensures w.rows w.invariant.1.tall,
+      w.invariant.0.room,
+      loop-there a.rows.now c.put_cut.new.rows a.span a.j c.moved-cut.result u.room u.there c.put_cut.ensures w.rows w.invariant.0.tall,
       omega (arith, u.room.within.few),
     )
 
@@ -102,13 +101,13 @@ swept_cut-cut-requires c =
       u.formed,
       c.requires.1,
       subst (λ (x : ℕ). x ≤ last_stamp)
-          (sym (w.invariant.4 ∙ first_word a.rows.now mid a.span a.j cut u.room u.there c.put_cut.ensures w.i))
+          (sym (w.invariant.3 ∙ first_word a.rows.now mid a.span a.j cut u.room u.there c.put_cut.ensures w.i))
           (u.stamps w.i c.loop-i-test.true),
-      w.invariant.3,
+      w.invariant.2,
       subst (Fits a.p)
           (sym
           (c.cut_at-after.ensures
-          ∙ w.invariant.1.kept (w.i + 1) (omega arith) inside
+          ∙ w.invariant.0.kept (w.i + 1) (omega arith) inside
           ∙ first_cut a.rows.now mid a.span a.j cut u.room u.there c.put_cut.ensures w.i inside))
           (u.fits (w.i + 1) (omega (arith, c.loop-i-test.true))),
     )
@@ -118,8 +117,8 @@ put_cut-requires-in-loop-i c =
     let a = c.args in
     let u = c.requires.0 in
     let w = c.loop-i in (
-      w.invariant.1.room,
-      loop-there a.rows.now c.put_cut.new.rows a.span a.j c.moved-cut.result u.room u.there c.put_cut.ensures w.rows w.invariant.1.tall,
+      w.invariant.0.room,
+      loop-there a.rows.now c.put_cut.new.rows a.span a.j c.moved-cut.result u.room u.there c.put_cut.ensures w.rows w.invariant.0.tall,
       omega (arith, u.room.within.few, c.loop-i-test.true),
     )
 
@@ -128,9 +127,9 @@ word-held-requires-in-loop-i c =
     let a = c.args in
     let u = c.requires.0 in
     let w = c.loop-i in
-    let there = loop-there a.rows.now c.put_cut.new.rows a.span a.j c.moved-cut.result u.room u.there c.put_cut.ensures w.rows w.invariant.1.tall in
+    let there = loop-there a.rows.now c.put_cut.new.rows a.span a.j c.moved-cut.result u.room u.there c.put_cut.ensures w.rows w.invariant.0.tall in
     let few : w.i + 1 ≤ 64 = omega (arith, u.room.within.few, c.loop-i-test.true) in
-    let r = stored_room w.rows c.put_cut-in-loop-i.new.rows a.span a.j c.swept_cut-cut.result w.invariant.1.room there (w.i + 1) few
+    let r = stored_room w.rows c.put_cut-in-loop-i.new.rows a.span a.j c.swept_cut-cut.result w.invariant.0.room there (w.i + 1) few
     c.put_cut-in-loop-i.ensures in
     (r, omega (arith, r.shared), few)
 
@@ -139,9 +138,9 @@ word-input-requires-in-loop-i c =
     let a = c.args in
     let u = c.requires.0 in
     let w = c.loop-i in
-    let there = loop-there a.rows.now c.put_cut.new.rows a.span a.j c.moved-cut.result u.room u.there c.put_cut.ensures w.rows w.invariant.1.tall in
+    let there = loop-there a.rows.now c.put_cut.new.rows a.span a.j c.moved-cut.result u.room u.there c.put_cut.ensures w.rows w.invariant.0.tall in
     let few : w.i + 1 ≤ 64 = omega (arith, u.room.within.few, c.loop-i-test.true) in
-    let r = stored_room w.rows c.put_cut-in-loop-i.new.rows a.span a.j c.swept_cut-cut.result w.invariant.1.room there (w.i + 1) few
+    let r = stored_room w.rows c.put_cut-in-loop-i.new.rows a.span a.j c.swept_cut-cut.result w.invariant.0.room there (w.i + 1) few
     c.put_cut-in-loop-i.ensures in
     (r, r.shared, few)
 
@@ -155,11 +154,10 @@ loop-i-preserved c =
     let next = w.i + 1 in
     let few : w.i + 1 ≤ 64 = omega (arith, u.room.within.few, c.loop-i-test.true) in
     let next-set = new_set_next a.p mid a.span a.j a.action a.stamp head w.i w.rows w.cut c.cut_at-after.result c.swept_cut-cut.result w.held w.input
-    w.invariant.1 (omega (arith, few)) w.invariant.2 c.cut_at-after.ensures w.invariant.4 w.invariant.5 c.swept_cut-cut.ensures in
+    w.invariant.0 (omega (arith, few)) w.invariant.1 c.cut_at-after.ensures w.invariant.3 w.invariant.4 c.swept_cut-cut.ensures in
     let done = sweeping_more a.p mid a.span a.j a.action a.stamp head next w.rows c.put_cut-in-loop-i.new.rows c.swept_cut-cut.result
     (first_there a.rows.now mid a.span a.j c.moved-cut.result u.room u.there c.put_cut.ensures)
-    few w.invariant.1 next-set c.swept_cut-cut.ensures.fits c.put_cut-in-loop-i.ensures in (
-      omega (arith, c.loop-i-test.true),
+    few w.invariant.0 next-set c.swept_cut-cut.ensures.fits c.put_cut-in-loop-i.ensures in (
       done,
       next-set,
       c.swept_cut-cut.ensures.fits,
@@ -176,4 +174,4 @@ returns c =
     rows-swept a.p a.rows.now c.put_cut.new.rows w.rows a.span a.j a.action a.stamp cut.result c.requires.0
     (cut.ensures.set a.stamp ∙ ap (λ (x : Cut). moved (meant a.p) (set_of x) (line_of true a.action a.stamp)) c.cut_at.ensures)
     c.put_cut.ensures
-    (subst (λ (i : ℕ). Sweeping a.p c.put_cut.new.rows a.span a.j a.action a.stamp (set_of cut.result) (i + 1) w.rows) end w.invariant.1)
+    (subst (λ (i : ℕ). Sweeping a.p c.put_cut.new.rows a.span a.j a.action a.stamp (set_of cut.result) (i + 1) w.rows) end w.invariant.0)

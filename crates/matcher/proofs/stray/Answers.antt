@@ -13,12 +13,13 @@ pub returns-then-cut-n-gt0 : goal.returns-then-cut-n-gt0
 unfolding stray
 returns-then-cut-n-gt0 c =
     let a = c.args in
-    sym (ap (λ (b : Bool). b || leb (2 ^ suc (suc a.n)) a.cut.armed)
+    lt-ltb 0 (a.cut.mask / 2 ^ (a.n + 1)) c.if-cut-n-gt0.true
+    ∙ sym (ap (λ (b : Bool). b || leb (2 ^ suc (suc a.n)) a.cut.armed)
     (sym (shifted (a.n + 1) (suc a.n) a.cut.mask (omega arith)) ∙ lt-ltb 0 (a.cut.mask / 2 ^ (a.n + 1)) c.if-cut-n-gt0.true))
 
-pub returns : goal.returns
+pub returns-else-cut-n-gt0 : goal.returns-else-cut-n-gt0
 unfolding stray
-returns c =
+returns-else-cut-n-gt0 c =
     let a = c.args in
     shifted (a.n + 2) (suc (suc a.n)) a.cut.armed (omega arith)
     ∙ sym (ap (λ (b : Bool). b || leb (2 ^ suc (suc a.n)) a.cut.armed)

@@ -1,7 +1,7 @@
 -- `matcher::verdict` meets its contract: by whether broken and some length, armed or not, are in the set.
 use Prim.Native.Nat.{ℕ, ◌/◌, ◌%◌, ◌≤◌, ◌<◌}
-use mathlib.Core.Path.{◌≡◌, refl, sym, ap, ap₂, ◌∙◌}
-use mathlib.Core.Bool.{Bool, true, false, not, ◌||◌, or-true}
+use mathlib.Core.Path.{◌≡◌, refl, sym, ap, ◌∙◌}
+use mathlib.Core.Bool.{Bool, true, false, not, ◌||◌}
 use native.Mathlib.Omega.{arith}
 use lib.Dec.{eqb}
 use borrow.Author.Tests.{lt-ltb, le-ltb}
@@ -10,6 +10,7 @@ use Rattle.laws.proofs.Bits.{bit-zero}
 use Rattle.matcher.proofs.Words.{verdict-read}
 use Rattle.matcher.proofs.Moving.{some_test}
 use Rattle.matcher.proofs.verdict.Goals as goal
+use Rattle.matcher.proofs.verdict.Goals.{Joined-cut-gt0, then-cut-gt0, else-cut-gt0}
 
 -- the last digit of the armed word is that of broken
 even : (m : ℕ) → m % 2 ≡ 0 → false ≡ bit m 0
@@ -29,23 +30,24 @@ returns-then-cut-eq0 c =
     let cut = c.args.cut in
     λ p h. verdict-read p cut h false (not (eqb cut.mask 0) || not (eqb (cut.armed / 2) 0)) (even cut.armed c.if-cut-eq0.true) refl
 
-pub returns-then-cut-gt0 : goal.returns-then-cut-gt0
-returns-then-cut-gt0 c =
-    let cut = c.args.cut in
-    λ p h.
-    verdict-read p cut h true true (odd cut.armed c.if-cut-eq0.false)
-    (ap (λ (c : Bool). c || not (eqb (cut.armed / 2) 0)) (there cut.mask c.if-cut-gt0.true))
+some : (c : Joined-cut-gt0) → c.if-cut-gt0.value ≡ not (eqb c.args.cut.mask 0) || not (eqb (c.args.cut.armed / 2) 0)
+some c = elim c.if-cut-gt0.branch [
+  | then-cut-gt0 w ↦
+      w.value-is ∙ lt-ltb 0 c.args.cut.mask w.if-cut-gt0.true
+      ∙ ap (λ (b : Bool). b || not (eqb (c.args.cut.armed / 2) 0)) (there c.args.cut.mask w.if-cut-gt0.true)
+  | else-cut-gt0 w ↦
+      w.value-is ∙ some_test (c.args.cut.armed / 2)
+      ∙ ap (λ (b : Bool). b || not (eqb (c.args.cut.armed / 2) 0)) (not_there c.args.cut.mask w.if-cut-gt0.false)
+]
 
 pub returns-then-cut-gt0-2 : goal.returns-then-cut-gt0-2
 returns-then-cut-gt0-2 c =
     let cut = c.args.cut in
     λ p h.
-    verdict-read p cut h true true (odd cut.armed c.if-cut-eq0.false)
-    (sym (or-true (not (eqb cut.mask 0))) ∙ ap (λ (c : Bool). not (eqb cut.mask 0) || c) (there (cut.armed / 2) c.if-cut-gt0-2.true))
+    verdict-read p cut h true true (odd cut.armed c.if-cut-eq0.false) (sym c.if-cut-gt0-2.true ∙ some (goal.at.returns-then-cut-gt0-2 c).Joined-cut-gt0)
 
-pub returns : goal.returns
-returns c =
+pub returns-else-cut-gt0-2 : goal.returns-else-cut-gt0-2
+returns-else-cut-gt0-2 c =
     let cut = c.args.cut in
     λ p h.
-    verdict-read p cut h true false (odd cut.armed c.if-cut-eq0.false)
-    (ap₂ (λ (a c : Bool). a || c) (not_there cut.mask c.if-cut-gt0.false) (not_there (cut.armed / 2) c.if-cut-gt0-2.false))
+    verdict-read p cut h true false (odd cut.armed c.if-cut-eq0.false) (sym c.if-cut-gt0-2.false ∙ some (goal.at.returns-else-cut-gt0-2 c).Joined-cut-gt0)

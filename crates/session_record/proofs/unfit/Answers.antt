@@ -16,6 +16,8 @@ use Rattle.rows.specs.Rows.{last_place}
 use Rattle.session_record.specs.Record.{rows_of, span_of, start_of, count_of, latest_of, length_above, out_of_range}
 use Rattle.session_record.proofs.Range.{misformed, outside, crowded, fallen, held-blind, late, too_long, range_tests}
 use Rattle.session_record.proofs.unfit.Goals as goal
+use Rattle.session_record.proofs.unfit.Goals.{then-refused-ne0-via-then-refused-ne0, then-refused-ne0-via-else-refused-ne0+then-span-gt-LAST_PLACE, then-refused-ne0-via-else-refused-ne0+else-span-gt-LAST_PLACE+then-span-gt-MOST_OPEN}
+use Rattle.session_record.proofs.unfit.Goals.{then-falls-via-then-falls, then-falls-via-else-falls+then-clock-gt-LAST_STAMP}
 
 -- The tests that have failed so far, in the words of refusal 10: the first three, and that of the stamps.
 module _ (s : Session) where
@@ -38,23 +40,20 @@ module _ (s : Session) where
 pub returns-then-refused-ne0 : goal.returns-then-refused-ne0
 returns-then-refused-ne0 c =
     let s = c.args.s in
-    sym
-    (range_tests s true (outside s) (crowded s) (fallen s) (held-blind s) (late s) (too_long s)
-    (ap not (ne_eqb (property_refusal (meant s.property)) 0 (λ e. c.if-refused-ne0.true (c.refused.ensures ∙ e)))) refl refl refl refl refl refl)
-
-pub returns-then-span-gt-LAST_PLACE : goal.returns-then-span-gt-LAST_PLACE
-returns-then-span-gt-LAST_PLACE c =
-    let s = c.args.s in
-    sym
-    (range_tests s false true (crowded s) (fallen s) (held-blind s) (late s) (too_long s) (formed s _ c.refused.ensures c.if-refused-ne0.false)
-    (lt-ltb last_place (start_of s) c.if-span-gt-LAST_PLACE.true) refl refl refl refl refl)
-
-pub returns-then-span-gt-MOST_OPEN : goal.returns-then-span-gt-MOST_OPEN
-returns-then-span-gt-MOST_OPEN c =
-    let s = c.args.s in
-    sym
-    (range_tests s false false true (fallen s) (held-blind s) (late s) (too_long s) (formed s _ c.refused.ensures c.if-refused-ne0.false)
-    (begins s c.if-span-gt-LAST_PLACE.false) (lt-ltb most_open (count_of s) c.if-span-gt-MOST_OPEN.true) refl refl refl refl)
+    elim c.then-refused-ne0.branch [
+      | then-refused-ne0-via-then-refused-ne0 w ↦
+          sym
+          (range_tests s true (outside s) (crowded s) (fallen s) (held-blind s) (late s) (too_long s)
+          (ap not (ne_eqb (property_refusal (meant s.property)) 0 (λ e. w.if-refused-ne0.true (c.refused.ensures ∙ e)))) refl refl refl refl refl refl)
+      | then-refused-ne0-via-else-refused-ne0+then-span-gt-LAST_PLACE w ↦
+          sym
+          (range_tests s false true (crowded s) (fallen s) (held-blind s) (late s) (too_long s) (formed s _ c.refused.ensures w.if-refused-ne0.false)
+          (lt-ltb last_place (start_of s) w.if-span-gt-LAST_PLACE.true) refl refl refl refl refl)
+      | then-refused-ne0-via-else-refused-ne0+else-span-gt-LAST_PLACE+then-span-gt-MOST_OPEN w ↦
+          sym
+          (range_tests s false false true (fallen s) (held-blind s) (late s) (too_long s) (formed s _ c.refused.ensures w.if-refused-ne0.false)
+          (begins s w.if-span-gt-LAST_PLACE.false) (lt-ltb most_open (count_of s) w.if-span-gt-MOST_OPEN.true) refl refl refl refl)
+    ]
 
 pub falls-requires : goal.falls-requires
 falls-requires c =
@@ -63,19 +62,19 @@ falls-requires c =
 pub returns-then-falls : goal.returns-then-falls
 returns-then-falls c =
     let s = c.args.s in
-    sym
-    (three s _ c.refused.ensures c.if-refused-ne0.false c.if-span-gt-LAST_PLACE.false c.if-span-gt-MOST_OPEN.false
-    true (held-blind s) (late s) (too_long s)
-    (fell s _ _ _ c.falls.ensures c.rows_of-rows.ensures.0 c.if-falls.true) refl refl refl)
-
-pub returns-then-clock-gt-LAST_STAMP : goal.returns-then-clock-gt-LAST_STAMP
-returns-then-clock-gt-LAST_STAMP c =
-    let s = c.args.s in
-    sym
-    (three s _ c.refused.ensures c.if-refused-ne0.false c.if-span-gt-LAST_PLACE.false c.if-span-gt-MOST_OPEN.false
-    false (held-blind s) true (too_long s)
-    (fell s _ _ _ c.falls.ensures c.rows_of-rows.ensures.0 c.if-falls.false) refl (lt-ltb last_stamp (latest_of s) c.if-clock-gt-LAST_STAMP.true) refl
-    ∙ ap (λ (b : Bool). b || too_long s) (or-true (held-blind s)))
+    elim c.then-falls.branch [
+      | then-falls-via-then-falls w ↦
+          sym
+          (three s _ c.refused.ensures c.if-refused-ne0.false c.if-span-gt-LAST_PLACE.false c.if-span-gt-MOST_OPEN.false
+          true (held-blind s) (late s) (too_long s)
+          (fell s _ _ _ c.falls.ensures c.rows_of-rows.ensures.0 w.if-falls.true) refl refl refl)
+      | then-falls-via-else-falls+then-clock-gt-LAST_STAMP w ↦
+          sym
+          (three s _ c.refused.ensures c.if-refused-ne0.false c.if-span-gt-LAST_PLACE.false c.if-span-gt-MOST_OPEN.false
+          false (held-blind s) true (too_long s)
+          (fell s _ _ _ c.falls.ensures c.rows_of-rows.ensures.0 w.if-falls.false) refl (lt-ltb last_stamp (latest_of s) w.if-clock-gt-LAST_STAMP.true) refl
+          ∙ ap (λ (b : Bool). b || too_long s) (or-true (held-blind s)))
+    ]
 
 pub returns-then-clock : goal.returns-then-clock
 returns-then-clock c =
