@@ -34,7 +34,7 @@ returns-else-r-trace c =
     let means : record_in m ≡ record_of c.args.p (fresh_by c.args.p) =
     fresh_means c.args.p c.requires c.fresh-fresh.result c.fresh-fresh.ensures c.rows_of-rows.result c.rows_of-rows.ensures.0
     in
-    ap (λ (v : ℕ). record { refusal = 0; verdict = v; count = c.records-r.result.taken }) c.verdict_of-verdict.ensures
+    ap (λ (v : ℕ). record { refusal = 0; verdict = v; count = c.records-r.result.taken }) c.verdict_of.ensures
     ∙ sym (judged-ended c.args.p c.args.trace.now (record_in m) means _ c.records-r.ensures.walked c.in-End.is c.if-r-trace.false)
 
 pub returns-in-Refused : goal.returns-in-Refused
