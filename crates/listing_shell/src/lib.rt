@@ -32,6 +32,7 @@ pub fn read_full<R: Read>(input: &mut R, buf: &mut [u8]) -> usize
     ensures { IsPrefixLen result buf.new }
 {
     let mut done = 0;
+    // A `while`, since a turn fills as many bytes as came; std's `read_exact` does not say how many.
     while done < buf.len() {
         match input.read(&mut buf[done..]) {
             Ok(0) | Err(_) => break,
@@ -41,11 +42,12 @@ pub fn read_full<R: Read>(input: &mut R, buf: &mut [u8]) -> usize
     done
 }
 
-// Writes all bytes, or stops at the first write that takes none or fails.
+// Writes all bytes, or stops at the first write that takes none or fails. One that a signal interrupts is made again.
 pub fn write_all<W: Write>(out: &mut W, bytes: &[u8]) -> bool {
     out.write_all(bytes).is_ok()
 }
 
+// Writes so many bytes from the front.
 pub fn write_front<W: Write>(out: &mut W, bytes: &[u8], len: usize) -> bool
     requires { len ≤ length bytes.now }
 {

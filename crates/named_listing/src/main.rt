@@ -54,7 +54,7 @@ fn put<'a, W: Write>(
 }
 
 // Lists the records. A proved loop has to end, and nothing says that the input does: the loop counts its turns, up to a number that no
-// run comes to.
+// run comes to. It is not one with `listing_shell::records`: what a turn hands on to the next is another, and so is each fact of it.
 fn records<'a, R: Read, W: Write>(
     input: &mut R,
     out: &mut W,

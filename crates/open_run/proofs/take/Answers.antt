@@ -22,7 +22,7 @@ returns-in-Line c =
     let start : Memory = memory a.p a.rows.now a.status in
     let lines : Places = in_lines a.outputs.now a.actions.now a.stamps.now a.count in
     let after : Memory = memory a.p c.take-told.new.rows c.take-told.result.status in
-    came_leads start c.requires.0 c.take-told.result.answer after lines a.read c.take-told.ensures c.comes_to-came.ensures c.in-Line.is _ c.keep.ensures refl
+    came_leads start c.requires.0 c.take-told.result.answer after lines a.read c.take-told.ensures c.comes_to.ensures c.in-Line.is _ c.keep.ensures refl
 
 pub returns-in-Other : goal.returns-in-Other
 returns-in-Other c =
@@ -30,4 +30,4 @@ returns-in-Other c =
     let start : Memory = memory a.p a.rows.now a.status in
     let lines : Places = in_lines a.outputs.now a.actions.now a.stamps.now a.count in
     let after : Memory = memory a.p c.take-told.new.rows c.take-told.result.status in
-    came_leads start c.requires.0 c.take-told.result.answer after lines a.read c.take-told.ensures c.comes_to-came.ensures c.in-Other.is
+    came_leads start c.requires.0 c.take-told.result.answer after lines a.read c.take-told.ensures c.comes_to.ensures c.in-Other.is

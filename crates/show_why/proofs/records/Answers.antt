@@ -29,4 +29,4 @@ write-requires g c = subst (λ (t : Text). t.len ≤ room) (sym c.blind.ensures)
 
 -- where a run is open at the end record
 pub tell-requires : goal.tell-requires
-tell-requires g c = going_open _ _ _ c.loop-turns.invariant.0 c.next-r.ensures c.in-Ended.is c.if-clock.false
+tell-requires g c = going_open _ _ _ c.loop-turns.invariant.0 c.next-r.ensures c.in-Ended.is c.if-status.false
