@@ -6,9 +6,8 @@ use script::arguments::Arguments;
 use script::properties;
 use script::properties::PropertyText;
 use script::text::{Hex, Rest};
-use std::fmt;
 use std::fmt::{Display, Formatter};
-use std::io;
+use std::{fmt, io};
 
 // A buffer to write in has so many bytes at most.
 const BUFFER: usize = 512;
@@ -33,7 +32,10 @@ pub fn judge(rt: &impl Print, arguments: &mut Arguments<'_>) -> io::Result<()> {
     let trace = arguments.string();
     let judged = stretch::judge(property, trace);
     let number = stretch::anthegyra_stretch_judge(property, trace);
-    println!(rt; "J {} {} {} {number}", judged.refusal, judged.verdict, judged.count)
+    println!(rt;
+        "J {} {} {} {number}",
+        judged.refusal, judged.verdict, judged.count
+    )
 }
 
 pub fn read_property(rt: &impl Print, arguments: &mut Arguments<'_>) -> io::Result<()> {
@@ -48,7 +50,12 @@ pub fn write_property(rt: &impl Print, arguments: &mut Arguments<'_>) -> io::Res
     let property = properties::read(arguments);
     let Buffer { mut bytes, len } = buffer_of(arguments.string());
     let written = property_form::write_property(property, &mut bytes[..len]);
-    println!(rt; "Q {} {} {}", written.refusal, written.size, Hex(&bytes[..len]))
+    println!(rt;
+        "Q {} {} {}",
+        written.refusal,
+        written.size,
+        Hex(&bytes[..len])
+    )
 }
 
 // What a record reader answered: refusal, kind, action (of a gap its number of lost lines), stamp.

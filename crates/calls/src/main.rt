@@ -24,7 +24,12 @@ fn unknown(rt: &impl Print, name: u8, arguments: &mut Arguments<'_>) -> io::Resu
 }
 
 // The call of this name.
-fn call(rt: &impl Print, name: u8, arguments: &mut Arguments<'_>, session: &mut Session) -> io::Result<()> {
+fn call(
+    rt: &impl Print,
+    name: u8,
+    arguments: &mut Arguments<'_>,
+    session: &mut Session,
+) -> io::Result<()> {
     match name {
         b'F' => steps::fresh(rt, arguments, session),
         b'L' => steps::line(rt, arguments, session),

@@ -39,7 +39,11 @@ impl Display for SessionText<'_> {
         let Status { span, clock } = shared.status;
         let blind = u8::from(clock.blind);
         write!(f, "{}", PropertyText(&session.property))?;
-        writeln!(f, "session {} {} {} {blind}", span.start, span.count, clock.latest)?;
+        writeln!(
+            f,
+            "session {} {} {} {blind}",
+            span.start, span.count, clock.latest
+        )?;
         writeln!(f, "held{}", used(&shared.held))?;
         writeln!(f, "acts{}", used(&shared.acts))?;
         writeln!(f, "masks{}", used(&session.row.masks))?;

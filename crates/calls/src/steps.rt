@@ -12,23 +12,43 @@ use walk::Stop;
 fn keep(rt: &impl Print, name: char, stepped: Stepped, session: &mut Session) -> io::Result<()> {
     let answer = stepped.answer;
     *session = stepped.session;
-    println!(rt; "{name} {} {} {}", answer.refusal, answer.verdict, answer.open_count)?;
+    println!(rt;
+        "{name} {} {} {}",
+        answer.refusal, answer.verdict, answer.open_count
+    )?;
     rt.print(SessionText(session))
 }
 
-pub fn fresh(rt: &impl Print, arguments: &mut Arguments<'_>, session: &mut Session) -> io::Result<()> {
+pub fn fresh(
+    rt: &impl Print,
+    arguments: &mut Arguments<'_>,
+    session: &mut Session,
+) -> io::Result<()> {
     let property = properties::read(arguments);
     keep(rt, 'F', session::fresh(property), session)
 }
 
-pub fn line(rt: &impl Print, arguments: &mut Arguments<'_>, session: &mut Session) -> io::Result<()> {
+pub fn line(
+    rt: &impl Print,
+    arguments: &mut Arguments<'_>,
+    session: &mut Session,
+) -> io::Result<()> {
     let output = arguments.flag();
     let action = arguments.byte();
     let stamp = arguments.word();
-    keep(rt, 'L', session::line(*session, output, action, stamp), session)
+    keep(
+        rt,
+        'L',
+        session::line(*session, output, action, stamp),
+        session,
+    )
 }
 
-pub fn mark(rt: &impl Print, arguments: &mut Arguments<'_>, session: &mut Session) -> io::Result<()> {
+pub fn mark(
+    rt: &impl Print,
+    arguments: &mut Arguments<'_>,
+    session: &mut Session,
+) -> io::Result<()> {
     let lost = arguments.byte();
     let stamp = arguments.word();
     keep(rt, 'G', session::mark(*session, lost, stamp), session)
@@ -43,19 +63,30 @@ fn stop_numbers(stop: Stop) -> (u64, u64) {
     }
 }
 
-pub fn walk_on(rt: &impl Print, arguments: &mut Arguments<'_>, session: &mut Session) -> io::Result<()> {
+pub fn walk_on(
+    rt: &impl Print,
+    arguments: &mut Arguments<'_>,
+    session: &mut Session,
+) -> io::Result<()> {
     let budget = arguments.size();
     let trace = arguments.string();
     let walked = walk::walk(*session, trace, budget);
     let (stop, refusal) = stop_numbers(walked.stop);
     let rest = Rest(walk::walk_rest(trace, walked.read));
     *session = walked.session;
-    println!(rt; "W {} {stop} {refusal} {} {} {rest}", walked.taken, walked.read, walked.lost)?;
+    println!(rt;
+        "W {} {stop} {refusal} {} {} {rest}",
+        walked.taken, walked.read, walked.lost
+    )?;
     rt.print(SessionText(session))
 }
 
 // The session is the one in the script.
-pub fn given(rt: &impl Print, arguments: &mut Arguments<'_>, session: &mut Session) -> io::Result<()> {
+pub fn given(
+    rt: &impl Print,
+    arguments: &mut Arguments<'_>,
+    session: &mut Session,
+) -> io::Result<()> {
     *session = sessions::read(arguments);
     println!(rt; "T")?;
     rt.print(SessionText(session))
