@@ -1,6 +1,5 @@
--- A line of text, as bytes: numbers in decimal, and the answer that holds a line.
-use Rattle.std.specs.Prelude.{ℕ, zero, suc, ◌+◌, ◌-◌, ◌/◌, ◌%◌, cond, List, [], ◌∷◌, ◌++◌, length, replicate, ltb}
-use Rattle.line_text.specs.declared.Text.{Text}
+-- A line of text, as bytes: numbers in decimal.
+use Rattle.std.specs.Prelude.{ℕ, zero, suc, ◌+◌, ◌/◌, ◌%◌, cond, List, [], ◌∷◌, ◌++◌, ltb}
 
 abbrev pub space : ℕ
 space = 32
@@ -21,11 +20,3 @@ digits (suc most) v = cond (ltb v 10) (digit v ∷ []) (digits most (v / 10) ++ 
 -- A number in decimal: no leading zeros, 0 is "0". Twenty digits hold every number below 2 ^ 64 (and no other is printed).
 unfoldable pub decimal : ℕ → List ℕ
 decimal v = digits 20 v
-
--- The bytes of an answer: the longest line has 94.
-abbrev pub room : ℕ
-room = 96
-
--- The answer that holds a text: its bytes, zeros behind them, and their number.
-unfoldable pub text_of : List ℕ → Text
-text_of l = record { bytes = l ++ replicate (room - length l) 0; len = length l }
