@@ -31,3 +31,9 @@ module _ (room len : ℕ) (bytes w : List ℕ) (h : Keeps room bytes len) (fits 
         text = ap length text_after ∙ omega (arith, h.text, length-append (take len bytes) w);
         zeros = ap (kept room) text_after ∙ append_assoc (take len bytes) w _ ∙ ap (λ (l : List ℕ). take len bytes ++ (w ++ l)) (sym left);
       }
+
+-- The text determines its room, byte by byte, and its number of bytes.
+pub kept_once : (room : ℕ) (bytes bytes' : List ℕ) (len len' : ℕ) → Keeps room bytes len → Keeps room bytes' len' → take len bytes ≡ take len' bytes'
+    → (bytes ≡ bytes') × (len ≡ len')
+kept_once room bytes bytes' len len' h h' e =
+    (sym h.zeros ∙ ap (kept room) e ∙ h'.zeros, sym h.text ∙ ap length e ∙ h'.text)

@@ -20,3 +20,11 @@ digits (suc most) v = cond (ltb v 10) (digit v ∷ []) (digits most (v / 10) ++ 
 -- A number in decimal: no leading zeros, 0 is "0". Twenty digits hold every number below 2 ^ 64 (and no other is printed).
 unfoldable pub decimal : ℕ → List ℕ
 decimal v = digits 20 v
+
+-- The room of a line: the longest has 94 bytes.
+abbrev pub room : ℕ
+room = 96
+
+-- The room of a line with a name: a name of 40 with the space before it is 41 more.
+abbrev pub named_room : ℕ
+named_room = 144

@@ -29,10 +29,10 @@ impl<const ROOM: usize> Model for Text<ROOM> {
     ghost inverse_ok = { λ t h. λ i. record { bytes = h.zeros i; len = h.text i } };
 }
 
-// A line of the listing with its newline. The longest, each number of 20 digits, has 94 bytes.
+// A line of the listing with its newline.
 pub type Line = Text<96>;
 
-// A line of the listing with names and its newline: a name of 40 bytes with the space before it is 41 more.
+// A line of the listing with names and its newline.
 pub type NamedLine = Text<144>;
 
 fn digit_of(d: u64) -> u8
