@@ -18,7 +18,7 @@ use Rattle.session_record.specs.Record.{latest_of, count_of, out_of_range}
 use Rattle.session_record.specs.Step.{standing, stepped_of}
 use Rattle.walk.specs.Walk.{One, one_call, one_read, one_of}
 use Rattle.line_text.specs.Text.{space, newline, decimal}
-use Rattle.printout.specs.Text.{letter, word, line_text, end_text, stop_text}
+use Rattle.printout.specs.Text.{letter, word, line_text, stop_text}
 use Rattle.printout.specs.Named.{front_text, back_text, shown_name, named_line_text}
 use Rattle.names.proofs.Named.{name_short}
 use Rattle.printed.specs.declared.Printed.{Printed}

@@ -1,5 +1,5 @@
 -- What one record adds to the whole listing: the line of a call that is taken, or the last line.
-use Rattle.std.proofs.Common.{◌≡◌, ℕ, suc, false, List, [], ◌++◌, take, drop, refl, ap, ◌∙◌, append-nil}
+use Rattle.std.proofs.Common.{◌≡◌, ℕ, suc, false, List, ◌++◌, take, drop, refl, ap, ◌∙◌, append-nil}
 use Rattle.meaning.specs.Calls.{Call}
 use Rattle.record_form.specs.Record.{Reader, RecordAnswer}
 use Rattle.trace_form.specs.ReadAs.{ReadAs, read_as}

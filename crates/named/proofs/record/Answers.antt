@@ -1,10 +1,9 @@
 -- `named::record` meets its contract: as `printed::record` lists it, with the name in a line of a call.
-use Prim.Native.Nat.{ℕ, ◌≤◌}
-use mathlib.Core.Path.{◌≡◌, sym, ◌∙◌, ap, subst}
+use Prim.Native.Nat.{ℕ}
+use mathlib.Core.Path.{◌≡◌, sym, ◌∙◌, ap}
 use mathlib.Core.List.{List}
 use mathlib.Core.Bool.{true}
 use Rattle.meaning.specs.Words.{Action}
-use Rattle.record_form.specs.Record.{record_answer}
 use Rattle.printed.specs.declared.Printed.{Printed}
 use Rattle.named.specs.Named.{names_of, named_of}
 use Rattle.named.proofs.Lines.{Took, took, took-same, last-same}

@@ -1,6 +1,6 @@
 -- `show_why::records` is safe and ends: the rows are ready before each record, what is kept is the run that is open, and each turn is one
 -- record more.
-use Rattle.std.proofs.Common.{◌≤◌, sym, subst, rules}
+use Rattle.std.proofs.Common.{rules}
 use Rattle.session_record.proofs.Ready.{fresh_means, fresh-ready}
 use Rattle.open_run.proofs.Keeping.{keeps-fresh}
 use Rattle.show_why.proofs.Going.{going_fresh, going_on, going_open}
