@@ -42,7 +42,8 @@ fn digit_of(d: u64) -> u8
     48 + d as u8
 }
 
-// The digits of a number, most significant first: those of its tenth stand before its last.
+// The digits of a number, most significant first: those of its tenth stand before its last. It stays by hand (d): a loop that fills a buffer from
+// its end, or `write!` with an error to drop, is no plainer.
 fn digits_of(v: u64) -> Text<20>
     ensures { result ≡ decimal v }
 {

@@ -58,10 +58,7 @@ pub fn line(number: u64, kind: u8, action: u8, stamp: u64, verdict: u64, open_co
 pub fn end(count: u64) -> Line
     ensures { result ≡ end_text count }
 {
-    Line::empty()
-        .put_word(b"end ")
-        .put_number(count)
-        .put(b'\n')
+    Line::empty().put_word(b"end ").put_number(count).put(b'\n')
 }
 
 // The last line after a refusal.

@@ -41,16 +41,16 @@ returns c =
     let a = c.args.answer in
     let number = c.wrapping_add_u64-number.ensures.value in
     elim c.match-read.branch [
-      in-Input w ↦
-        kind_known (kind_added a c.args.status c.args.count) _ c.if-answer-ne0.false w.in-Input.is
-        (goes_on c.args.status c.args.count _ number
-        (λ k. line_text k input w.in-Input.action w.in-Input.stamp a.verdict a.open_count) (w.text-is ∙ w.line-text.ensures))
-    | in-Output w ↦
-        kind_known (kind_added a c.args.status c.args.count) _ c.if-answer-ne0.false w.in-Output.is
-        (goes_on c.args.status c.args.count _ number
-        (λ k. line_text k output w.in-Output.action w.in-Output.stamp a.verdict a.open_count) (w.text-is ∙ w.line-text-in-Output.ensures))
-    | in-Gap w ↦
-        kind_known (kind_added a c.args.status c.args.count) _ c.if-answer-ne0.false w.in-Gap.is
-        (goes_on c.args.status c.args.count _ number
-        (λ k. line_text k gap w.in-Gap.lost w.in-Gap.stamp 3 0) (w.text-is ∙ w.line-text-in-Gap.ensures))
+      | in-Input w ↦
+          kind_known (kind_added a c.args.status c.args.count) _ c.if-answer-ne0.false w.in-Input.is
+          (goes_on c.args.status c.args.count _ number
+          (λ k. line_text k input w.in-Input.action w.in-Input.stamp a.verdict a.open_count) (w.text-is ∙ w.line-text.ensures))
+      | in-Output w ↦
+          kind_known (kind_added a c.args.status c.args.count) _ c.if-answer-ne0.false w.in-Output.is
+          (goes_on c.args.status c.args.count _ number
+          (λ k. line_text k output w.in-Output.action w.in-Output.stamp a.verdict a.open_count) (w.text-is ∙ w.line-text-in-Output.ensures))
+      | in-Gap w ↦
+          kind_known (kind_added a c.args.status c.args.count) _ c.if-answer-ne0.false w.in-Gap.is
+          (goes_on c.args.status c.args.count _ number
+          (λ k. line_text k gap w.in-Gap.lost w.in-Gap.stamp 3 0) (w.text-is ∙ w.line-text-in-Gap.ensures))
     ]
