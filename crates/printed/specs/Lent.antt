@@ -10,7 +10,6 @@ use Rattle.session_record.specs.declared.Session.{Session}
 use Rattle.session_record.specs.declared.Answer.{Answer}
 use Rattle.session_record.specs.Lent.{Memory, record_in, Ready}
 use Rattle.walk.specs.Walk.{one_read}
-use Rattle.line_text.specs.Text.{text_of}
 use Rattle.printout.specs.Text.{line_text, end_text, stop_text}
 use Rattle.printed.specs.declared.Printed.{Printed}
 use Rattle.printed.specs.declared.lent.Added.{Added}
@@ -18,11 +17,11 @@ use Rattle.printed.specs.Printed.{one_after, by_one}
 
 -- The listing goes on behind this line, with one record more.
 abbrev pub next_added : Status → ℕ → List ℕ → Added
-next_added status count text = record { text = text_of text; status = status; count = one_after count; more = true }
+next_added status count text = record { text = text; status = status; count = one_after count; more = true }
 
 -- The listing ends with this line.
 abbrev pub last_added : Status → ℕ → List ℕ → Added
-last_added status count text = record { text = text_of text; status = status; count = count; more = false }
+last_added status count text = record { text = text; status = status; count = count; more = false }
 
 -- What a record adds that the session has not refused, as it was read. After a gap no run is open.
 abbrev pub kind_added : Answer → Status → ℕ → RecordRead → Added

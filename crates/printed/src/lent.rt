@@ -6,7 +6,7 @@ ghost use Rattle.session_record.specs.Lent.{memory, Ready};
 ghost use Rattle.printed.specs.Lent.{added_of, Adds};
 
 use held::Status;
-use line_text::Text;
+use line_text::Line;
 use property::Property;
 use record_form::RecordRead;
 use rows::Words;
@@ -16,7 +16,7 @@ use table::Table;
 // What a record adds to the listing, and what stands beside the rows after it.
 #[derive(Clone, Copy)]
 pub struct Added {
-    pub text: Text,
+    pub text: Line,
     pub status: Status,
     // The number of records taken so far.
     pub count: u64,
@@ -25,7 +25,7 @@ pub struct Added {
 }
 
 // The listing ends with this line.
-fn last(status: Status, count: u64, text: Text) -> Added
+fn last(status: Status, count: u64, text: Line) -> Added
     ensures { result ≡ record { text = text; status = status; count = count; more = false } }
 {
     Added {

@@ -6,16 +6,15 @@ pub mod lent;
 ghost use Rattle.std.specs.Prelude.{◌≡◌, ℕ, ◌≤◌, List, ◌∷◌};
 ghost use Rattle.property_form.specs.Form.{form_size};
 ghost use Rattle.property_form.specs.Read.{length_read};
-ghost use Rattle.line_text.specs.Text.{text_of};
 ghost use Rattle.printed.specs.Printed.{printed_of, opening_text, begun_of};
 
-use line_text::Text;
+use line_text::Line;
 use session_record::Session;
 
 // What one part of the input adds to the listing, and what the next part starts from.
 #[derive(Clone, Copy)]
 pub struct Printed {
-    pub text: Text,
+    pub text: Line,
     pub session: Session,
     // The number of records taken so far.
     pub count: u64,
@@ -70,11 +69,11 @@ pub fn size(first: u8) -> usize
 }
 
 // What the property adds behind the header.
-fn opening(refusal: u64) -> Text
-    ensures { result ≡ text_of (opening_text refusal) }
+fn opening(refusal: u64) -> Line
+    ensures { result ≡ opening_text refusal }
 {
     if refusal == 0 {
-        return line_text::empty();
+        return Line::empty();
     }
     printout::stop(0, refusal)
 }
