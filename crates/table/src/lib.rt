@@ -16,8 +16,8 @@ pub type Table = [u8; 4257];
 // An output or an input, and its number. ?3 and !3 have nothing in common.
 #[derive(Clone, Copy, PartialEq, Eq)]
 pub struct Action {
-    output: bool,
-    number: u8,
+    pub output: bool,
+    pub number: u8,
 }
 
 impl Action {
