@@ -4,15 +4,12 @@
 
 ghost use Rattle.std.specs.Prelude.{◌≤◌, length, IfOk};
 
-mod answer;
 mod forms;
 mod orders;
 mod sessions;
 mod steps;
 
-use answer::Answer;
-use script::text::Page;
-use script::{arguments, text};
+use script::arguments::Arguments;
 use session_record::Session;
 use std::io;
 use std::io::Read;
@@ -20,84 +17,66 @@ use std::io::Read;
 // So many bytes of a script are read.
 const MOST: usize = 524288;
 
-// What a call leaves: the number of bytes of the script behind it, and the session.
-#[derive(Clone, Copy)]
-struct After {
-    left: usize,
-    session: Session,
+// No call has this name: nothing behind it is read.
+fn unknown(rt: &impl Print, name: u8, arguments: &mut Arguments<'_>) -> io::Result<()> {
+    *arguments = Arguments::new(&[]);
+    println!(rt; "? {name}")
 }
 
-// Made apart: where a long array is made and lent in one function, the check counts its places one by one.
-fn page() -> Page {
-    [0u8; 32768]
-}
-
-fn show(rt: &impl Print, a: Answer) -> io::Result<()> {
-    let mut out = page();
-    let n = answer::put(&mut out, a);
-    rt.write_all(text::front(&out, n))
-}
-
-// The orders of a run, which have nothing to do with the session.
-fn show_orders(rt: &impl Print, args: &[u8]) -> io::Result<()> {
-    let mut out = page();
-    let n = orders::explain(args, &mut out);
-    rt.write_all(text::front(&out, n))
-}
-
-// The call that stands at the front of what is left of a script.
-fn turn(rt: &impl Print, left: &[u8], s: Session) -> io::Result<After> {
-    let name = arguments::byte(left, 0);
-    let args = arguments::behind(left, 1);
-    if name == b'Y' {
-        show_orders(rt, args)?;
-        let rest = orders::rest(args);
-        return Ok(After {
-            left: rest.len(),
-            session: s,
-        });
+// The call of this name.
+fn call(
+    rt: &impl Print,
+    name: u8,
+    arguments: &mut Arguments<'_>,
+    session: &mut Session,
+) -> io::Result<()> {
+    match name {
+        b'F' => steps::fresh(rt, arguments, session),
+        b'L' => steps::line(rt, arguments, session),
+        b'G' => steps::mark(rt, arguments, session),
+        b'W' => steps::walk_on(rt, arguments, session),
+        b'T' => steps::given(rt, arguments, session),
+        b'J' => forms::judge(rt, arguments),
+        b'K' => forms::read_tap(rt, arguments),
+        b'N' => forms::name_of(rt, arguments),
+        b'P' => forms::read_property(rt, arguments),
+        b'Q' => forms::write_property(rt, arguments),
+        b'R' => forms::read_record(rt, arguments),
+        b'S' => forms::write_record(rt, arguments),
+        b'V' => forms::refused(rt, arguments),
+        b'Y' => orders::explain(rt, arguments),
+        b'v' => forms::version(rt),
+        _ => unknown(rt, name, arguments),
     }
-    let a = steps::call(name, args, s);
-    show(rt, a)?;
-    let after = a.session;
-    Ok(After {
-        left: a.left,
-        session: after,
-    })
 }
 
 // All calls of the script, up to its end or a byte 0, from a session of zeros. Each takes a byte of it or more.
-fn run(rt: &impl Print, calls: &[u8]) -> io::Result<()> {
-    let mut s = sessions::read(&[]);
-    let mut left = calls.len();
-    let mut turns = calls.len();
-    while 0 < turns {
-        let rest = arguments::last(calls, left);
-        if arguments::byte(rest, 0) == 0 {
-            return Ok(());
+fn run(rt: &impl Print, script: &[u8]) -> io::Result<()> {
+    let mut arguments = Arguments::new(script);
+    let mut session = sessions::read(&mut Arguments::new(&[]));
+    for _ in script {
+        let name = arguments.byte();
+        if name == 0 {
+            break;
         }
-        let r = turn(rt, rest, s)?;
-        let after = r.session;
-        s = after;
-        left = r.left;
-        turns -= 1;
+        call(rt, name, &mut arguments, &mut session)?;
     }
     Ok(())
 }
 
-// Made apart, as the page is.
-fn room() -> [u8; 524288] {
-    [0u8; 524288]
+// Made apart: where a long array is made and lent in one function, the check counts its places one by one.
+fn room() -> [u8; MOST] {
+    [0; MOST]
 }
 
 // Reads until the room is full or the input ends, and gives the number of bytes that were read.
-fn read(rt: &impl Input, calls: &mut [u8]) -> io::Result<usize>
-    ensures { IfOk result (λ n. n ≤ length calls.new) }
+fn read(rt: &impl Input, script: &mut [u8]) -> io::Result<usize>
+    ensures { IfOk result (λ n. n ≤ length script.new) }
 {
     let mut input = rt.reader();
     let mut done = 0;
-    while done < calls.len() {
-        let n = input.read(&mut calls[done..])?;
+    while done < script.len() {
+        let n = input.read(&mut script[done..])?;
         if n == 0 {
             break;
         }
@@ -108,11 +87,11 @@ fn read(rt: &impl Input, calls: &mut [u8]) -> io::Result<usize>
 
 // A read or a write that fails ends the program with its error.
 fn main(rt: HostRuntime) -> io::Result<()> {
-    let mut calls = room();
-    let n = read(&rt, &mut calls)?;
-    run(&rt, arguments::front(&calls, n))?;
+    let mut script = room();
+    let n = read(&rt, &mut script)?;
+    run(&rt, &script[..n])?;
     if n == MOST {
-        rt.write_all(b"cut\n")?;
+        rt.print("cut\n")?;
     }
     Ok(())
 }

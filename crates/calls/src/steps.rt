@@ -1,71 +1,93 @@
-// The calls on the session, which keep the one that they leave; any other call is one of the forms.
-use crate::answer::Answer;
-use crate::{answer, forms, sessions};
-use script::{arguments, properties};
+// The calls on the session, which keep the one that they leave.
+use crate::sessions;
+use crate::sessions::SessionText;
+use script::arguments::Arguments;
+use script::properties;
+use script::text::Rest;
 use session_record::{Session, Stepped};
+use std::io;
 use walk::Stop;
 
 // The answer to fresh, line and mark.
-fn after_step(letter: u8, r: Stepped, rest: &[u8]) -> Answer {
-    let told = r.answer;
-    let s = r.session;
-    let numbers = [told.refusal, told.verdict, told.open_count, 0, 0, 0];
-    answer::with_session(answer::told(letter, 3, numbers, rest, s))
+fn keep(rt: &impl Print, name: char, stepped: Stepped, session: &mut Session) -> io::Result<()> {
+    let answer = stepped.answer;
+    *session = stepped.session;
+    println!(rt;
+        "{name} {} {} {}",
+        answer.refusal, answer.verdict, answer.open_count
+    )?;
+    rt.print(SessionText(session))
 }
 
-fn fresh(args: &[u8]) -> Answer {
-    let r = session::fresh(properties::read(args));
-    after_step(b'F', r, arguments::behind(args, properties::SIZE))
+pub fn fresh(
+    rt: &impl Print,
+    arguments: &mut Arguments<'_>,
+    session: &mut Session,
+) -> io::Result<()> {
+    let property = properties::read(arguments);
+    keep(rt, 'F', session::fresh(property), session)
 }
 
-fn line(args: &[u8], s: Session) -> Answer {
-    let output = arguments::flag(args, 0);
-    let action = arguments::byte(args, 1);
-    let r = session::line(s, output, action, arguments::word_at(args, 2));
-    after_step(b'L', r, arguments::behind(args, 10))
+pub fn line(
+    rt: &impl Print,
+    arguments: &mut Arguments<'_>,
+    session: &mut Session,
+) -> io::Result<()> {
+    let output = arguments.flag();
+    let action = arguments.byte();
+    let stamp = arguments.word();
+    keep(
+        rt,
+        'L',
+        session::line(*session, output, action, stamp),
+        session,
+    )
 }
 
-fn mark(args: &[u8], s: Session) -> Answer {
-    let lost = arguments::byte(args, 0);
-    let r = session::mark(s, lost, arguments::word_at(args, 1));
-    after_step(b'G', r, arguments::behind(args, 9))
+pub fn mark(
+    rt: &impl Print,
+    arguments: &mut Arguments<'_>,
+    session: &mut Session,
+) -> io::Result<()> {
+    let lost = arguments.byte();
+    let stamp = arguments.word();
+    keep(rt, 'G', session::mark(*session, lost, stamp), session)
 }
 
-// A walk: the number taken; how it stopped, 0 by its budget, 1 at an end, 2 at a refusal; the refusal; the bytes read; the last taken
-// gap's number of lost lines.
-fn walk_numbers(taken: u64, stop: Stop, read: u64, lost: u64) -> [u64; 6] {
+// How it stopped: 0 by its budget, 1 at an end, 2 at a refusal; and the refusal.
+fn stop_numbers(stop: Stop) -> (u64, u64) {
     match stop {
-        Stop::Budget => [taken, 0, 0, read, lost, 0],
-        Stop::End => [taken, 1, 0, read, lost, 0],
-        Stop::Refused(number) => [taken, 2, number, read, lost, 0],
+        Stop::Budget => (0, 0),
+        Stop::End => (1, 0),
+        Stop::Refused(refusal) => (2, refusal),
     }
 }
 
-fn walk_on(args: &[u8], s: Session) -> Answer {
-    let given = arguments::behind(args, 8);
-    let trace = arguments::string(given);
-    let r = walk::walk(s, trace, arguments::size_at(args, 0));
-    let stop = r.stop;
-    let after = r.session;
-    let numbers = walk_numbers(r.taken as u64, stop, r.read as u64, fields::wide(r.lost));
-    let told = answer::told(b'W', 5, numbers, arguments::string_rest(given), after);
-    answer::with_session(answer::with_rest(told, walk::walk_rest(trace, r.read)))
+pub fn walk_on(
+    rt: &impl Print,
+    arguments: &mut Arguments<'_>,
+    session: &mut Session,
+) -> io::Result<()> {
+    let budget = arguments.size();
+    let trace = arguments.string();
+    let walked = walk::walk(*session, trace, budget);
+    let (stop, refusal) = stop_numbers(walked.stop);
+    let rest = Rest(walk::walk_rest(trace, walked.read));
+    *session = walked.session;
+    println!(rt;
+        "W {} {stop} {refusal} {} {} {rest}",
+        walked.taken, walked.read, walked.lost
+    )?;
+    rt.print(SessionText(session))
 }
 
-fn given(args: &[u8]) -> Answer {
-    let s = sessions::read(args);
-    let rest = arguments::behind(args, sessions::SIZE);
-    answer::with_session(answer::told(b'T', 0, [0u64; 6], rest, s))
-}
-
-// The call of this name.
-pub fn call(name: u8, args: &[u8], s: Session) -> Answer {
-    match name {
-        b'F' => fresh(args),
-        b'L' => line(args, s),
-        b'G' => mark(args, s),
-        b'W' => walk_on(args, s),
-        b'T' => given(args),
-        _ => forms::call(name, args, s),
-    }
+// The session is the one in the script.
+pub fn given(
+    rt: &impl Print,
+    arguments: &mut Arguments<'_>,
+    session: &mut Session,
+) -> io::Result<()> {
+    *session = sessions::read(arguments);
+    println!(rt; "T")?;
+    rt.print(SessionText(session))
 }

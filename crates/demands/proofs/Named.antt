@@ -18,10 +18,8 @@ use Rattle.printout.specs.Text.{end_text, stop_text}
 use Rattle.printout.specs.Named.{named_line_text}
 use Rattle.printed.specs.Printed.{one_after, by_one, printed_of}
 use Rattle.printed.proofs.Listed.{not_named}
-use Rattle.named_text.specs.Text.{named_text_of, named_shown}
 use Rattle.named.specs.Named.{names_of, named_call_text, named_by_one, named_of}
 use Rattle.named.specs.Listing.{named_lines_of}
-use Rattle.named.proofs.Fits.{named_held}
 use Rattle.demands.specs.Texts.{or_none, name_text, named_row_text, end_line, stop_line}
 use Rattle.demands.proofs.Texts.{demand_last, demand_named_line}
 use Rattle.demands.proofs.Listing.{Lister}
@@ -71,11 +69,9 @@ module _ (site release : List ℕ) where
         let one : one_of s (take 6 bytes) ≡ o =
         ap (λ (a : RecordAnswer). one_read s (read_as a)) (record_reads.front bytes (latest_of s)) ∙ ap (one_read s) e ∙ q in
         let p : printed_of s count (take 6 bytes) ≡ by_one s count o = not_named record_answer s count (take 6 bytes) fits ∙ ap (by_one s count) one in
-        (λ i.
-        named_shown (named_text_of (cond (fits i) (stop_text count 10) (named_by_one names count (one i))))
-        ++ cond (p i).more (lines most (p i).session (p i).count (drop 6 bytes)) [])
-        ∙ ap (λ (t : List ℕ). t ++ cond (by_one s count o).more (lines most (by_one s count o).session (by_one s count o).count (drop 6 bytes)) [])
-        (named_held (named_by_one names count o))
+        λ i.
+        cond (fits i) (stop_text count 10) (named_by_one names count (one i))
+        ++ cond (p i).more (lines most (p i).session (p i).count (drop 6 bytes)) []
 
     pub ended : read_as (record_answer bytes (latest_of s)) ≡ ReadAs.end → lines (suc most) s count bytes ≡ end_line count
     ended e = by_read ReadAs.end e One.ended (unfold one_read in refl) ∙ shows ∙ (demand_last count 0).0

@@ -22,11 +22,9 @@ use Rattle.names.proofs.Named.{name_is}
 use Rattle.names.proofs.Places.{of_site, of_release, of_neither}
 use Rattle.printout.specs.Text.{stop_text}
 use Rattle.printout.specs.Named.{named_header_text}
-use Rattle.line_text.specs.Text.{text_of}
-use Rattle.line_text.proofs.Held.{text-held}
 use Rattle.session_record.specs.Step.{fresh_of}
 use Rattle.printed.specs.Printed.{opening_text, begun_of}
-use Rattle.printed.specs.Listing.{shown, records_by, listing_of}
+use Rattle.printed.specs.Listing.{records_by, listing_of}
 use Rattle.printed.proofs.Whole.{listing_taken}
 use Rattle.named.specs.Named.{names_of}
 use Rattle.name_list.specs.Read.{list_refusal}
@@ -101,14 +99,13 @@ module _ (site release property records : List ℕ) where
   log_refused : (n : ℕ) → (Read.read property).refusal ≡ suc n → named_log site release property records ≡ stop_text 0 (suc n)
   unfolding named_log begun_of
   log_refused n e =
-      (λ i. shown (text_of (opening_text (e i))) ++ cond (eqb (e i) 0) lines [])
-      ∙ ap (λ (t : Bool). shown (text_of (stop_text 0 (suc n))) ++ cond t lines []) (eqb-suc-zero n)
+      (λ i. opening_text (e i) ++ cond (eqb (e i) 0) lines [])
+      ∙ ap (λ (t : Bool). stop_text 0 (suc n) ++ cond t lines []) (eqb-suc-zero n)
       ∙ append-nil _
-      ∙ text-held (stop_text 0 (suc n))
 
   log_taken : (Read.read property).refusal ≡ 0 → named_log site release property records ≡ lines
   unfolding named_log begun_of
-  log_taken e = (λ i. shown (text_of (opening_text (e i))) ++ cond (eqb (e i) 0) lines []) ∙ ap (λ (t : List ℕ). t ++ lines) (text-held [])
+  log_taken e = λ i. opening_text (e i) ++ cond (eqb (e i) 0) lines []
 
   -- the rows and the last line of the listing without names
   all_named : (e : (Read.read property).refusal ≡ 0)

@@ -4,7 +4,7 @@ use mathlib.Core.Path.{◌≡◌, refl, sym, ◌∙◌, ap}
 use mathlib.Core.Bool.{true, false, cond}
 use mathlib.Core.List.{List, [], ◌++◌}
 use lib.Dec.{eqb}
-use lib.ListN.{length, replicate}
+use lib.ListN.{length, replicate, take}
 use Rattle.meaning.specs.Node.{Verdict, verdict_number}
 use Rattle.fields.specs.Fields.{field}
 use Rattle.property_form.specs.Form.{form_size}
@@ -18,14 +18,11 @@ use Rattle.session_record.specs.declared.Session.{Session}
 use Rattle.session_record.specs.Record.{latest_of, count_of, out_of_range}
 use Rattle.session_record.specs.Step.{standing, fresh_of, stepped_of}
 use Rattle.walk.specs.Walk.{One, one_call, one_read, one_of, walk_of}
-use Rattle.line_text.specs.Text.{text_of}
-use Rattle.line_text.proofs.Held.{text-held}
+use Rattle.line_text.specs.Kept.{kept, Keeps}
 use Rattle.printout.specs.Text.{stop_text}
 use Rattle.printed.specs.declared.Printed.{Printed}
 use Rattle.printed.specs.Printed.{one_after, last_line, by_one, printed_of, opening_text, begun_of}
-use Rattle.printed.specs.Listing.{shown}
 use Rattle.printed.proofs.Listed.{not_named}
-use Rattle.named_text.specs.Text.{named_text_of}
 use Rattle.named.specs.Named.{names_of, named_by_one, named_of}
 use Rattle.named.proofs.Lines.{last-same}
 use Rattle.demands.specs.Packed.{property_bytes}
@@ -34,11 +31,13 @@ use Rattle.demands.proofs.Texts.{demand_last}
 use Rattle.demands.proofs.Listing.{entry-text, refused-shown}
 use Rattle.demands.proofs.Named.{named_entry_text}
 
--- A text is handed back in a room of its own, with zeros behind it.
-pub text-kept : (l : List ℕ)
-    → (text_of l ≡ record { bytes = l ++ replicate (96 - length l) 0; len = length l }) × (named_text_of l ≡ record { bytes = l ++ replicate (144 - length l) 0; len = length l })
-unfolding text_of named_text_of
-text-kept l = (refl, refl)
+-- A text is handed back in a room of its own, with zeros behind it: of these bytes a text of the listing, and one of the listing with names,
+-- has these fields and no others.
+pub text-kept : (l bytes : List ℕ) (len : ℕ) → take len bytes ≡ l
+    → (Keeps 96 bytes len → (bytes ≡ l ++ replicate (96 - length l) 0) × (len ≡ length l))
+    × (Keeps 144 bytes len → (bytes ≡ l ++ replicate (144 - length l) 0) × (len ≡ length l))
+text-kept l bytes len e =
+    (λ h. (sym h.zeros ∙ ap (kept 96) e, sym h.text ∙ ap length e), λ h. (sym h.zeros ∙ ap (kept 144) e, sym h.text ∙ ap length e))
 
 -- `printed::size`: a property's first byte has its length n, and it takes 122 + 7n bits, "to a full byte";
 pub demand_size : (s : List ℕ) → form_size (length_read s) ≡ property_bytes (field s 0 6)
@@ -46,8 +45,8 @@ demand_size s = refl
 
 -- `begin`: "A refused property prints the header and `stop 0` with its number"; one that is taken, the header alone.
 pub record Demand-begun (bytes : List ℕ) : Type 0 where
-  pub refused : (n : ℕ) → (Read.read bytes).refusal ≡ suc n → (begun_of bytes).text ≡ text_of (stop_line 0 (suc n))
-  pub taken : (Read.read bytes).refusal ≡ 0 → (begun_of bytes).text ≡ text_of []
+  pub refused : (n : ℕ) → (Read.read bytes).refusal ≡ suc n → (begun_of bytes).text ≡ stop_line 0 (suc n)
+  pub taken : (Read.read bytes).refusal ≡ 0 → (begun_of bytes).text ≡ []
   pub session : (begun_of bytes).session ≡ (fresh_of (Read.read bytes).property).session
   pub count : (begun_of bytes).count ≡ 0
   pub more : (begun_of bytes).more ≡ eqb (Read.read bytes).refusal 0
@@ -56,8 +55,8 @@ pub demand_begun : (bytes : List ℕ) → Demand-begun bytes
 unfolding begun_of
 demand_begun bytes =
     record {
-      refused = λ n e. ap (λ (k : ℕ). text_of (opening_text k)) e ∙ ap text_of (demand_last 0 (suc n)).1;
-      taken = λ e. ap (λ (k : ℕ). text_of (opening_text k)) e;
+      refused = λ n e. ap opening_text e ∙ (demand_last 0 (suc n)).1;
+      taken = λ e. ap opening_text e;
       session = refl;
       count = refl;
       more = refl;
@@ -88,16 +87,16 @@ module _ (s : Session) (count : ℕ) (bytes : List ℕ) where
   -- `record`: what the walk of one record refuses (10 first) is the number that the last line names,
   pub record Demand-printed : Type 0 where
     pub refused : (n : ℕ) → (walk_of s bytes 1).refusal ≡ suc n
-        → printed_of s count bytes ≡ record { text = text_of (stop_line count (suc n)); session = s; count = count; more = false }
+        → printed_of s count bytes ≡ record { text = stop_line count (suc n); session = s; count = count; more = false }
     -- an end record is the last line,
     pub ended : out_of_range s ≡ false → record_answer bytes (latest_of s) ≡ Record.taken Record.end 0 (latest_of s)
-        → printed_of s count bytes ≡ record { text = text_of (end_line count); session = s; count = count; more = false }
+        → printed_of s count bytes ≡ record { text = end_line count; session = s; count = count; more = false }
     -- and a record that is taken is a row, with the verdict standing after it and the number open.
     pub taken : out_of_range s ≡ false → (e : Entry) → record_answer bytes (latest_of s) ≡ Record.taken (kind_of e) (action_of e) (stamp_of e)
         → (stepped_of s (entry_call e)).answer.refusal ≡ 0 → (v : Verdict) → standing (stepped_of s (entry_call e)).session ≡ verdict_number v
         → printed_of s count bytes
         ≡ record {
-          text = text_of (row_text (record { number = number; entry = e; verdict = v; open_count = count_of (stepped_of s (entry_call e)).session }));
+          text = row_text (record { number = number; entry = e; verdict = v; open_count = count_of (stepped_of s (entry_call e)).session });
           session = (stepped_of s (entry_call e)).session;
           count = number;
           more = true;
@@ -115,21 +114,21 @@ module _ (s : Session) (count : ℕ) (bytes : List ℕ) where
             let after : Session = (stepped_of s (entry_call e)).session in
             by fits (One.took (entry_call e) after) (taken-one e h z)
             ∙ (unfold by_one one_after in
-            (ap (λ (t : List ℕ). record { text = text_of t; session = after; count = number; more = true }) (entry-text number e after v q)));
+            (ap (λ (t : List ℕ). record { text = t; session = after; count = number; more = true }) (entry-text number e after v q)));
       }
 
   -- The same with names: `named::record`.
   module _ (site release : List ℕ) where
     pub record Demand-named-record : Type 0 where
       pub refused : (n : ℕ) → (walk_of s bytes 1).refusal ≡ suc n
-          → named_of site release s count bytes ≡ record { text = named_text_of (stop_line count (suc n)); session = s; count = count; more = false }
+          → named_of site release s count bytes ≡ record { text = stop_line count (suc n); session = s; count = count; more = false }
       pub ended : out_of_range s ≡ false → record_answer bytes (latest_of s) ≡ Record.taken Record.end 0 (latest_of s)
-          → named_of site release s count bytes ≡ record { text = named_text_of (end_line count); session = s; count = count; more = false }
+          → named_of site release s count bytes ≡ record { text = end_line count; session = s; count = count; more = false }
       pub taken : out_of_range s ≡ false → (e : Entry) → record_answer bytes (latest_of s) ≡ Record.taken (kind_of e) (action_of e) (stamp_of e)
           → (stepped_of s (entry_call e)).answer.refusal ≡ 0 → (v : Verdict) → standing (stepped_of s (entry_call e)).session ≡ verdict_number v
           → named_of site release s count bytes
           ≡ record {
-            text = named_text_of (named_row_text (names_of site release) (record { number = number; entry = e; verdict = v; open_count = count_of (stepped_of s (entry_call e)).session }));
+            text = named_row_text (names_of site release) (record { number = number; entry = e; verdict = v; open_count = count_of (stepped_of s (entry_call e)).session });
             session = (stepped_of s (entry_call e)).session;
             count = number;
             more = true;
@@ -137,38 +136,37 @@ module _ (s : Session) (count : ℕ) (bytes : List ℕ) where
 
     named_by : out_of_range s ≡ false → (o : One) → one_of s bytes ≡ o
         → named_of site release s count bytes
-        ≡ record { text = named_text_of (named_by_one (names_of site release) count o); session = (by_one s count o).session; count = (by_one s count o).count; more = (by_one s count o).more }
+        ≡ record { text = named_by_one (names_of site release) count o; session = (by_one s count o).session; count = (by_one s count o).count; more = (by_one s count o).more }
     unfolding named_of
     named_by fits o q =
         let p = by fits o q in
         λ i. record {
-          text = named_text_of (cond (fits i) (stop_text count 10) (named_by_one (names_of site release) count (q i)));
+          text = cond (fits i) (stop_text count 10) (named_by_one (names_of site release) count (q i));
           session = (p i).session;
           count = (p i).count;
           more = (p i).more;
         }
 
     last_named : (n : ℕ) → (walk_of s bytes 1).refusal ≡ suc n
-        → named_of site release s count bytes ≡ record { text = named_text_of (stop_text count (suc n)); session = s; count = count; more = false }
+        → named_of site release s count bytes ≡ record { text = stop_text count (suc n); session = s; count = count; more = false }
     unfolding named_of
     last_named n e =
         let p : printed_of s count bytes ≡ last_line s count (stop_text count (suc n)) = refused-shown s count bytes n e in
         let text = sym (last-same s count bytes (names_of site release) (printed_of s count bytes) refl (ap (λ (r : Printed). r.more) p))
-        ∙ ap (λ (r : Printed). shown r.text) p
-        ∙ text-held (stop_text count (suc n)) in
-        λ i. record { text = named_text_of (text i); session = (p i).session; count = (p i).count; more = (p i).more }
+        ∙ ap (λ (r : Printed). r.text) p in
+        λ i. record { text = text i; session = (p i).session; count = (p i).count; more = (p i).more }
 
     pub demand_named_record : Demand-named-record
     demand_named_record =
         record {
           refused = λ n e.
-              last_named n e ∙ ap (λ (t : List ℕ). record { text = named_text_of t; session = s; count = count; more = false }) (demand_last count (suc n)).1;
+              last_named n e ∙ ap (λ (t : List ℕ). record { text = t; session = s; count = count; more = false }) (demand_last count (suc n)).1;
           ended = λ fits h.
               named_by fits One.ended (ended-one h)
-              ∙ (unfold by_one named_by_one in (ap (λ (t : List ℕ). record { text = named_text_of t; session = s; count = count; more = false }) (demand_last count 0).0));
+              ∙ (unfold by_one named_by_one in (ap (λ (t : List ℕ). record { text = t; session = s; count = count; more = false }) (demand_last count 0).0));
           taken = λ fits e h z v q.
               let after : Session = (stepped_of s (entry_call e)).session in
               named_by fits (One.took (entry_call e) after) (taken-one e h z)
               ∙ (unfold by_one named_by_one one_after in
-              (ap (λ (t : List ℕ). record { text = named_text_of t; session = after; count = number; more = true }) (named_entry_text (names_of site release) number e after v q)));
+              (ap (λ (t : List ℕ). record { text = t; session = after; count = number; more = true }) (named_entry_text (names_of site release) number e after v q)));
         }

@@ -8,9 +8,6 @@ use native.Mathlib.Omega.{arith}
 use borrow.Author.Tests.{lt-ltb, le-ltb}
 use lib.ListN.{length, length-append}
 use lib.Dec.{T, ltb, ltb→lt, nltb→le, lit<}
-use Rattle.line_text.specs.declared.Text.{Text}
-use Rattle.line_text.specs.Append.{Added}
-use Rattle.line_text.proofs.Growth.{then, wider}
 use Rattle.line_text.specs.Text.{digit, digits, decimal}
 
 pub digits_small : (most v : ℕ) → v < 10 → digits (suc most) v ≡ digit v ∷ []
@@ -59,21 +56,6 @@ unfolding decimal
 decimal_more v more fits =
     digits_more 19 v more
     ∙ ap (λ (l : List ℕ). l ++ digit (v % 10) ∷ []) (one_more 18 (v / 10) (omega arith))
-
--- A number below ten is put by its one digit.
-pub put_small : {t r : Text} {b : ℕ} (v : ℕ) → v < 10 → b ≡ digit v → Added t (b ∷ []) 1 r → Added t (decimal v) (length (decimal v)) r
-put_small {t} {r} v small is added =
-    let e = ap (λ (x : ℕ). x ∷ []) is ∙ sym (decimal_small v small) in
-    subst (λ (l : List ℕ). Added t l (length l) r) e added
-
--- Any other by the digits of its tenth, and its last.
-pub put_more : {t s r : Text} {b : ℕ} (v : ℕ) → 10 ≤ v → v < 2 ^ 64 → b ≡ digit (v % 10)
-    → Added t (decimal (v / 10)) (length (decimal (v / 10))) s → Added s (b ∷ []) 1 r → Added t (decimal v) (length (decimal v)) r
-put_more {t} {r = r} {b} v more fits is front last =
-    let e = ap (λ (x : ℕ). decimal (v / 10) ++ x ∷ []) is ∙ sym (decimal_more v more fits) in
-    let all : Added t (decimal (v / 10) ++ b ∷ []) (length (decimal (v / 10)) + 1) r = then front last in
-    let size : length (decimal (v / 10)) + 1 ≤ length (decimal (v / 10) ++ b ∷ []) = omega (arith, length-append (decimal (v / 10)) (b ∷ [])) in
-    subst (λ (l : List ℕ). Added t l (length l) r) e (wider size all)
 
 -- The room that a number's tenth leaves for its last digit.
 pub length_more : (v : ℕ) → 10 ≤ v → v < 2 ^ 64 → length (decimal v) ≡ length (decimal (v / 10)) + 1

@@ -1,7 +1,5 @@
--- The proofs that belong to no one function: how a text grows, the digits of a number and that they read back, what an answer holds,
--- and the largest number.
-pub mod Growth
+-- The proofs that belong to no one function: the digits of a number and that they read back, and the largest number.
+pub mod Kept
 pub mod Digits
 pub mod ReadsBack
-pub mod Held
 pub mod Example

@@ -1,3 +1,3 @@
--- The definitions: a line of text and numbers in decimal. `Append`, which only contracts of leaves name, comes after.
+-- The definitions: numbers in decimal, and how a text is kept.
 pub mod Text
-pub mod Append
+pub mod Kept

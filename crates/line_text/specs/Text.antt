@@ -1,6 +1,5 @@
--- A line of text, as bytes: numbers in decimal, and the answer that holds a line.
-use Rattle.std.specs.Prelude.{ℕ, zero, suc, ◌+◌, ◌-◌, ◌/◌, ◌%◌, cond, List, [], ◌∷◌, ◌++◌, length, replicate, ltb}
-use Rattle.line_text.specs.declared.Text.{Text}
+-- A line of text, as bytes: numbers in decimal.
+use Rattle.std.specs.Prelude.{ℕ, zero, suc, ◌+◌, ◌/◌, ◌%◌, cond, List, [], ◌∷◌, ◌++◌, ltb}
 
 abbrev pub space : ℕ
 space = 32
@@ -22,10 +21,10 @@ digits (suc most) v = cond (ltb v 10) (digit v ∷ []) (digits most (v / 10) ++ 
 unfoldable pub decimal : ℕ → List ℕ
 decimal v = digits 20 v
 
--- The bytes of an answer: the longest line has 94.
+-- The room of a line: the longest has 94 bytes.
 abbrev pub room : ℕ
 room = 96
 
--- The answer that holds a text: its bytes, zeros behind them, and their number.
-unfoldable pub text_of : List ℕ → Text
-text_of l = record { bytes = l ++ replicate (room - length l) 0; len = length l }
+-- The room of a line with a name: a name of 40 with the space before it is 41 more.
+abbrev pub named_room : ℕ
+named_room = 144

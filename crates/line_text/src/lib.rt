@@ -2,48 +2,38 @@
 #![tactic(auto)]
 
 ghost use Rattle.std.specs.Prelude.{◌≡◌, ◌∷◌, [], ◌++◌, ◌+◌, ◌≤◌, ◌<◌, length};
-ghost use Rattle.line_text.specs.Text.{room, space, digit, decimal, text_of};
-ghost use Rattle.line_text.specs.Append.{Added};
+ghost use Rattle.line_text.specs.Text.{space, digit, decimal};
 
-// A line of the listing with its newline, and zeros behind it. The longest, each number of 20 digits, has 94 bytes.
+use std::marker::Model;
+
+// A text of at most `ROOM` bytes. Behind it are zeros.
 #[derive(Clone, Copy)]
-pub struct Text {
-    pub bytes: [u8; 96],
-    pub len: usize,
+pub struct Text<const ROOM: usize> {
+    bytes: [u8; ROOM],
+    len: usize,
 }
 
-pub fn empty() -> Text
-    ensures { (result ≡ text_of []) × (result.len ≡ 0) }
-{
-    Text {
-        bytes: [0u8; 96],
-        len: 0,
-    }
+// Clauses see the bytes of the text.
+impl<const ROOM: usize> Model for Text<ROOM> {
+    ghost use Rattle.std.specs.Prelude.{ℕ, List, length, take};
+    ghost use Rattle.line_text.specs.Kept.{Keeps, kept};
+
+    ghost Value = { List ℕ };
+
+    ghost view = { λ t. take t.len t.bytes };
+
+    ghost invariant = { λ t. Keeps ROOM t.bytes t.len };
+
+    ghost inverse = { λ l. record { bytes = kept ROOM l; len = length l } };
+
+    ghost inverse_ok = { λ t h. λ i. record { bytes = h.zeros i; len = h.text i } };
 }
 
-pub fn put(t: Text, b: u8) -> Text
-    requires { t.len < room }
-    ensures { Added t (b ∷ []) 1 result }
-{
-    let mut r = t;
-    let at = t.len;
-    r.bytes[at] = b;
-    r.len = at + 1;
-    r
-}
+// A line of the listing with its newline.
+pub type Line = Text<96>;
 
-pub fn put_word(t: Text, w: &[u8]) -> Text
-    requires { t.len + length w.now ≤ room }
-    ensures { Added t w.now (length w.now) result }
-{
-    let mut r = t;
-    let mut i = 0;
-    while i < w.len() {
-        r = put(r, w[i]);
-        i += 1;
-    }
-    r
-}
+// A line of the listing with names and its newline.
+pub type NamedLine = Text<144>;
 
 fn digit_of(d: u64) -> u8
     requires { d < 10 }
@@ -52,29 +42,73 @@ fn digit_of(d: u64) -> u8
     48 + d as u8
 }
 
-// The digits of the number, most significant first: those of its tenth stand before its last.
-fn put_digits(t: Text, v: u64) -> Text
-    requires { t.len + length (decimal v) ≤ room }
-    ensures { Added t (decimal v) (length (decimal v)) result }
+// The digits of a number, most significant first: those of its tenth stand before its last. It stays by hand (d): a loop that fills a buffer from
+// its end, or `write!` with an error to drop, is no plainer.
+fn digits_of(v: u64) -> Text<20>
+    ensures { result ≡ decimal v }
 {
     if v < 10 {
-        return put(t, digit_of(v));
+        return Text::empty().put(digit_of(v));
     }
-    let front = put_digits(t, v / 10);
-    put(front, digit_of(v % 10))
+    digits_of(v / 10).put(digit_of(v % 10))
 }
 
-pub fn put_number(t: Text, v: u64) -> Text
-    requires { t.len + 20 ≤ room }
-    ensures { Added t (decimal v) 20 result }
-{
-    put_digits(t, v)
-}
+impl<const ROOM: usize> Text<ROOM> {
+    pub fn empty() -> Self
+        ensures { result ≡ [] }
+    {
+        Text {
+            bytes: [0; ROOM],
+            len: 0,
+        }
+    }
 
-// The number, and the space behind it.
-pub fn put_field(t: Text, v: u64) -> Text
-    requires { t.len + 21 ≤ room }
-    ensures { Added t (decimal v ++ space ∷ []) 21 result }
-{
-    put(put_number(t, v), b' ')
+    pub fn put(mut self, b: u8) -> Self
+        requires { length self < ROOM }
+        ensures { result ≡ self.entry ++ b ∷ [] }
+    {
+        self.bytes[self.len] = b;
+        self.len += 1;
+        self
+    }
+
+    pub fn put_word(mut self, w: &[u8]) -> Self
+        requires { length self + length w.now ≤ ROOM }
+        ensures { result ≡ self.entry ++ w.now }
+    {
+        let end = self.len + w.len();
+        self.bytes[self.len..end].copy_from_slice(w);
+        self.len = end;
+        self
+    }
+
+    pub fn put_number(self, v: u64) -> Self
+        requires { length self + 20 ≤ ROOM }
+        ensures text { result ≡ self.entry ++ decimal v }
+        ensures longer { length result ≤ length self.entry + 20 }
+    {
+        self.put_word(digits_of(v).as_bytes())
+    }
+
+    // The number, and the space behind it.
+    pub fn put_field(self, v: u64) -> Self
+        requires { length self + 21 ≤ ROOM }
+        ensures text { result ≡ self.entry ++ decimal v ++ space ∷ [] }
+        ensures longer { length result ≤ length self.entry + 21 }
+    {
+        self.put_number(v).put(b' ')
+    }
+
+    pub fn len(&self) -> usize
+        ensures { result ≡ length self.now }
+    {
+        self.len
+    }
+
+    pub fn as_bytes(&self) -> &[u8]
+        ensures bytes { result.now ≡ self.now }
+        ensures within { length self.now ≤ ROOM }
+    {
+        &self.bytes[..self.len]
+    }
 }

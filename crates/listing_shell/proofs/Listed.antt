@@ -22,13 +22,11 @@ use Rattle.session_record.proofs.Range.{ranged}
 use Rattle.session_record.proofs.Ready.{ready-fits, fresh_means}
 use Rattle.session_record.proofs.Running.{fresh_record, zeros_named}
 use Rattle.session_record.proofs.Steps.{fresh-refused}
-use Rattle.line_text.specs.Text.{room}
 use Rattle.printed.specs.declared.Printed.{Printed}
 use Rattle.printed.specs.declared.lent.Added.{Added}
 use Rattle.printed.specs.Printed.{printed_by, begun_of}
-use Rattle.printed.specs.Listing.{shown, lines_by}
+use Rattle.printed.specs.Listing.{lines_by}
 use Rattle.printed.specs.Lent.{Adds}
-use Rattle.printed.proofs.Fits.{printed_fits}
 use Rattle.printed.proofs.Listed.{read-adds}
 use Rattle.printed.proofs.Walks.{begins_fit}
 use Rattle.printed.proofs.Whole.{short_last}
@@ -84,10 +82,6 @@ lists form m {count} {bytes} {read} {r} {after} is_ready h few a =
       ready = a.ready;
     }
 
--- and its text fits
-pub lists_fits : {form : Form} {m : Memory} {count : ℕ} {r : Added} {after : Memory} → Lists form m count r after → r.text.len ≤ room
-lists_fits {form} {m} {count} h = subst (λ (p : Printed). p.text.len ≤ room) h.adds (printed_fits (reader_of form) (record_in m) count h.bytes)
-
 -- ---- the chain of the records
 
 reads_of : (form : Form) → Reads (size_of form) (reader_of form)
@@ -96,7 +90,7 @@ reads_of Tap = tap_reads
 
 abbrev one-adds : Form → Session → ℕ → List ℕ → OneAdds
 one-adds form s count bytes =
-    let r = printed_by (reader_of form) s count bytes in record { text = shown r.text; session = r.session; count = r.count; more = r.more }
+    let r = printed_by (reader_of form) s count bytes in record { text = r.text; session = r.session; count = r.count; more = r.more }
 
 one_by_one : (form : Form) → OneByOne (size_of form) (lines_by (size_of form) (reader_of form)) (one-adds form)
 unfolding lines_by

@@ -1,6 +1,5 @@
 -- No record adds an empty text: each line ends in a newline.
 use Prim.Native.Nat.{ℕ, ◌≤◌}
-use mathlib.Core.Path.{sym, subst}
 use mathlib.Core.Bool.{Bool, true, false, cond}
 use mathlib.Core.List.{List}
 use native.Mathlib.Omega.{arith}
@@ -11,11 +10,8 @@ use Rattle.trace_form.specs.ReadAs.{read_as}
 use Rattle.session_record.specs.declared.Session.{Session}
 use Rattle.session_record.specs.Record.{latest_of, out_of_range}
 use Rattle.walk.specs.Walk.{One, one_read}
-use Rattle.line_text.specs.Text.{text_of}
-use Rattle.line_text.proofs.Held.{text-held}
 use Rattle.printout.specs.Text.{line_text, end_text, stop_text}
 use Rattle.printed.specs.Printed.{call_text, last_line, by_one, printed_by}
-use Rattle.printed.specs.Listing.{shown}
 
 line-some : (number kind action stamp verdict open_count : ℕ) → 1 ≤ length (line_text number kind action stamp verdict open_count)
 unfolding line_text
@@ -34,22 +30,19 @@ unfolding call_text
 call-some number (Call.line l) after = line-some _ _ _ _ _ _
 call-some number (Call.mark g) after = line-some _ _ _ _ _ _
 
-held-some : (text : List ℕ) → 1 ≤ length text → 1 ≤ length (shown (text_of text))
-held-some text h = subst (λ (l : List ℕ). 1 ≤ length l) (sym (text-held text)) h
-
-by_one-some : (s : Session) (count : ℕ) (o : One) → 1 ≤ length (shown (by_one s count o).text)
+by_one-some : (s : Session) (count : ℕ) (o : One) → 1 ≤ length (by_one s count o).text
 unfolding by_one
-by_one-some s count One.ended = held-some _ (end-some count)
-by_one-some s count (One.refused n) = held-some _ (stop-some count n)
-by_one-some s count (One.took c after) = held-some _ (call-some _ c after)
+by_one-some s count One.ended = end-some count
+by_one-some s count (One.refused n) = stop-some count n
+by_one-some s count (One.took c after) = call-some _ c after
 
-pub printed_some : (reader : Reader) (s : Session) (count : ℕ) (bytes : List ℕ) → 1 ≤ length (shown (printed_by reader s count bytes).text)
+pub printed_some : (reader : Reader) (s : Session) (count : ℕ) (bytes : List ℕ) → 1 ≤ length (printed_by reader s count bytes).text
 unfolding printed_by
 printed_some reader s count bytes = go (out_of_range s)
   where
     one : One
     one = one_read s (read_as (reader bytes (latest_of s)))
 
-    go : (t : Bool) → 1 ≤ length (shown (cond t (last_line s count (stop_text count 10)) (by_one s count one)).text)
-    go true = held-some _ (stop-some count 10)
+    go : (t : Bool) → 1 ≤ length (cond t (last_line s count (stop_text count 10)) (by_one s count one)).text
+    go true = stop-some count 10
     go false = by_one-some s count one

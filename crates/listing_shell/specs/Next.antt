@@ -4,10 +4,9 @@ use Rattle.property.specs.declared.Property.{Property}
 use Rattle.property_form.specs.Form.{form_size}
 use Rattle.property_form.specs.Read.{length_read}
 use Rattle.session_record.specs.Step.{fresh_of}
-use Rattle.line_text.specs.declared.Text.{Text}
 use Rattle.printed.specs.declared.Printed.{Printed}
 use Rattle.printed.specs.Printed.{begun_of}
-use Rattle.printed.specs.Listing.{shown, lines_by}
+use Rattle.printed.specs.Listing.{lines_by}
 use Rattle.listing_shell.specs.declared.Form.{Form}
 use Rattle.listing_shell.specs.Form.{size_of, reader_of}
 
@@ -29,6 +28,6 @@ pub record NextText (size : ℕ) (lines : ℕ → List ℕ → List ℕ) (record
   pub some : 1 ≤ length text
 
 -- The same in the listing of records of this form behind a property.
-abbrev pub Follows : Form → Property → ℕ → Text → Type 0
+abbrev pub Follows : Form → Property → ℕ → List ℕ → Type 0
 Follows form p records text =
-    NextText (size_of form) (λ most bytes. lines_by (size_of form) (reader_of form) most (fresh_of p).session 0 bytes) records (shown text)
+    NextText (size_of form) (λ most bytes. lines_by (size_of form) (reader_of form) most (fresh_of p).session 0 bytes) records text

@@ -8,7 +8,6 @@ ghost use Rattle.property_form.specs.Form.{form_size};
 ghost use Rattle.property_form.specs.Read.{length_read};
 ghost use Rattle.record_form.specs.Record.{ReadBy};
 ghost use Rattle.table.specs.Table.{IsTable};
-ghost use Rattle.line_text.specs.Text.{room};
 ghost use Rattle.session_record.specs.Record.{out_of_range};
 ghost use Rattle.session_record.specs.Step.{fresh_of};
 ghost use Rattle.session_record.specs.Lent.{memory, Ready};
@@ -16,7 +15,7 @@ ghost use Rattle.listing_shell.specs.Form.{size_of, reader_of, Lists};
 ghost use Rattle.listing_shell.specs.Next.{Begun, Follows};
 
 use held::Status;
-use line_text::Text;
+use line_text::{Line, Text};
 use printed::Printed;
 use printed::lent::Added;
 use property::Property;
@@ -32,6 +31,7 @@ pub fn read_full<R: Read>(input: &mut R, buf: &mut [u8]) -> usize
     ensures { IsPrefixLen result buf.new }
 {
     let mut done = 0;
+    // A `while`, since a turn fills as many bytes as came; std's `read_exact` does not say how many.
     while done < buf.len() {
         match input.read(&mut buf[done..]) {
             Ok(0) | Err(_) => break,
@@ -41,27 +41,18 @@ pub fn read_full<R: Read>(input: &mut R, buf: &mut [u8]) -> usize
     done
 }
 
-// Writes all bytes, or stops at the first write that takes none or fails.
+// Writes all bytes, or stops at the first write that takes none or fails. One that a signal interrupts is made again.
 pub fn write_all<W: Write>(out: &mut W, bytes: &[u8]) -> bool {
     out.write_all(bytes).is_ok()
 }
 
-pub fn write_front<W: Write>(out: &mut W, bytes: &[u8], len: usize) -> bool
-    requires { len ≤ length bytes.now }
-{
-    write_all(out, &bytes[..len])
-}
-
 // Writes a line at once: who reads the listing sees it before the next record comes.
-pub fn write<W: Write>(out: &mut W, text: Text) -> bool
-    requires { text.len ≤ room }
-{
-    write_front(out, &text.bytes, text.len)
+pub fn write<W: Write, const ROOM: usize>(out: &mut W, text: Text<ROOM>) -> bool {
+    write_all(out, text.as_bytes())
 }
 
 // Writes what was added, and answers whether the listing goes on. One that cannot be written does not.
-pub fn shown<W: Write>(out: &mut W, text: Text, more: bool) -> bool
-    requires { text.len ≤ room }
+pub fn shown<W: Write, const ROOM: usize>(out: &mut W, text: Text<ROOM>, more: bool) -> bool
     ensures { result ≡ true → more ≡ true }
 {
     write(out, text) && more
@@ -82,7 +73,7 @@ pub fn read_form<R: Read>(input: &mut R, form: &mut [u8]) -> usize
 
 // Reads the property.
 pub fn begun<R: Read>(input: &mut R) -> Printed
-    ensures { Begun result × (result.text.len ≤ room) × (result.more ≡ true → out_of_range result.session ≡ false) }
+    ensures { Begun result × (result.more ≡ true → out_of_range result.session ≡ false) }
 {
     let mut form = [0u8; 71];
     let got = read_form(input, &mut form);
@@ -138,8 +129,8 @@ fn next<R: Read>(
 
 // Writes what a record added, and answers whether the listing goes on. The form, the property and the number of records so far are there for
 // the contract alone: they say which text is the next of the listing, and no other can be put.
-fn put<W: Write>(out: &mut W, form: Form, p: Property, records: u64, text: Text, more: bool) -> bool
-    requires { Follows form p records text × (text.len ≤ room) }
+fn put<W: Write>(out: &mut W, form: Form, p: Property, records: u64, text: Line, more: bool) -> bool
+    requires { Follows form p records text }
     ensures { result ≡ true → more ≡ true }
 {
     shown(out, text, more)

@@ -24,6 +24,7 @@ fn list_path(rt: &HostRuntime, path: &str) {
 
 // Lists the file that argument i names, and answers whether there is one. A name that is longer than any path is read as none.
 fn list_file(rt: &HostRuntime, i: usize) -> bool {
+    // `env::args` would give a `String`: the rule is no heap, so the name comes into fixed memory.
     let mut name = [0u8; 4096];
     let n = match rt.arg(i, &mut name) {
         Ok(n) => n,

@@ -1,4 +1,3 @@
--- The proofs that belong to no one function: what a name is put into, that it fits, that each promise determines its result.
+-- The proofs that belong to no one function: what a name is put into, and that each promise determines its result.
 pub mod Lines
-pub mod Fits
 pub mod Determined

@@ -17,14 +17,10 @@ use Rattle.session_record.specs.declared.Session.{Session}
 use Rattle.session_record.specs.Record.{latest_of, count_of, out_of_range}
 use Rattle.session_record.specs.Step.{standing, stepped_of}
 use Rattle.walk.specs.Walk.{One, one_call, one_read, one_of}
-use Rattle.line_text.specs.declared.Text.{Text}
-use Rattle.line_text.specs.Text.{space, newline, decimal, room, text_of}
-use Rattle.printout.specs.Text.{letter, word, line_text, end_text, stop_text}
+use Rattle.line_text.specs.Text.{space, newline, decimal}
+use Rattle.printout.specs.Text.{letter, word, line_text, stop_text}
 use Rattle.printout.specs.Named.{front_text, back_text, shown_name, named_line_text}
-use Rattle.line_text.proofs.Held.{text-held}
-use Rattle.printout.proofs.Fits.{line-fits}
 use Rattle.names.proofs.Named.{name_short}
-use Rattle.printed.specs.Listing.{shown}
 use Rattle.printed.specs.declared.Printed.{Printed}
 use Rattle.printed.specs.Printed.{one_after, call_text, last_line, by_one, printed_by, printed_of}
 use Rattle.named.specs.Named.{names_of, named_call_text, named_by_one}
@@ -90,10 +86,6 @@ shown-entry site release number after (Refused n) c e = absurd (true≢false (sy
 
 -- ---- the line of a record, and its name
 
-pub text-size : (t : Text) (l : List ℕ) → t ≡ text_of l → t.len ≡ length l
-unfolding text_of
-text-size t l e = ap (λ (x : Text). x.len) e
-
 pub name_as_short : (site release : List ℕ) (r : RecordRead) → length (name_as site release r) ≤ 40
 unfolding name_as
 name_as_short site release (Input a t) = name_short site release false a
@@ -102,7 +94,7 @@ name_as_short site release (Gap n t) = omega arith
 name_as_short site release (End t) = omega arith
 name_as_short site release (Refused n) = omega arith
 
-module _ (site release bytes : List ℕ) (before number : ℕ) (line : Text) (l : IsLine bytes before number line) (r : RecordRead) (h : IsRead bytes before r) where
+module _ (site release bytes : List ℕ) (before number : ℕ) (line : List ℕ) (l : IsLine bytes before number line) (r : RecordRead) (h : IsRead bytes before r) where
   abbrev front : List ℕ
   front = front_text number (kind_as r) (action_as r)
 
@@ -112,18 +104,15 @@ module _ (site release bytes : List ℕ) (before number : ℕ) (line : Text) (l 
   abbrev plain : List ℕ
   plain = line_text number (kind_as r) (action_as r) entry.stamp (standing l.after) (count_of l.after)
 
-  line_is : line ≡ text_of plain
-  line_is = l.text ∙ ap text_of entry.plain
+  line_is : line ≡ plain
+  line_is = l.text ∙ entry.plain
 
-  pub front_fits : length front ≤ line.len
-  front_fits = omega (arith, text-size line plain line_is, front-inside number (kind_as r) (action_as r) entry.stamp (standing l.after) (count_of l.after))
+  pub front_fits : length front ≤ length line
+  front_fits = omega (arith, ap length line_is, front-inside number (kind_as r) (action_as r) entry.stamp (standing l.after) (count_of l.after))
 
-  pub line-long : line.len ≤ room
-  line-long = omega (arith, text-size line plain line_is, line-fits number (kind_as r) (action_as r) entry.stamp (standing l.after) (count_of l.after))
-
-  pub with_its_name : inserted (length front) (name_as site release r) (shown line) ≡ named_call_text (names_of site release) number l.call l.after
+  pub with_its_name : inserted (length front) (name_as site release r) line ≡ named_call_text (names_of site release) number l.call l.after
   with_its_name =
-      ap (inserted (length front) (name_as site release r)) (ap shown line_is ∙ text-held plain)
+      ap (inserted (length front) (name_as site release r)) line_is
       ∙ inserted-line number (kind_as r) (action_as r) (name_as site release r) entry.stamp (standing l.after) (count_of l.after)
       ∙ sym entry.named
 
@@ -184,24 +173,24 @@ module _ (s : Session) (count : ℕ) (bytes : List ℕ) where
   took r e h = subst (Took s count bytes) (sym e) (took-all (ap (λ (x : Printed). x.more) (sym e) ∙ h))
 
   -- the last line is the same
-  last_by : (names : Action → List ℕ) (o : One) → (by_one s count o).more ≡ false → shown (by_one s count o).text ≡ named_by_one names count o
+  last_by : (names : Action → List ℕ) (o : One) → (by_one s count o).more ≡ false → (by_one s count o).text ≡ named_by_one names count o
   unfolding by_one named_by_one
-  last_by names One.ended h = text-held (end_text count)
-  last_by names (One.refused n) h = text-held (stop_text count n)
+  last_by names One.ended h = refl
+  last_by names (One.refused n) h = refl
   last_by names (One.took c after) h = absurd (true≢false h)
 
-  last_range : (names : Action → List ℕ) (t : Bool) → (by t (one_of s bytes)).more ≡ false → shown (by t (one_of s bytes)).text ≡ cond t (stop_text count 10) (named_by_one names count (one_of s bytes))
-  last_range names true h = text-held (stop_text count 10)
+  last_range : (names : Action → List ℕ) (t : Bool) → (by t (one_of s bytes)).more ≡ false → (by t (one_of s bytes)).text ≡ cond t (stop_text count 10) (named_by_one names count (one_of s bytes))
+  last_range names true h = refl
   last_range names false h = last_by names (one_of s bytes) h
 
   last-all : (names : Action → List ℕ) → (printed_of s count bytes).more ≡ false
-      → shown (printed_of s count bytes).text ≡ cond (out_of_range s) (stop_text count 10) (named_by_one names count (one_of s bytes))
+      → (printed_of s count bytes).text ≡ cond (out_of_range s) (stop_text count 10) (named_by_one names count (one_of s bytes))
   unfolding printed_by
   last-all names h = last_range names (out_of_range s) h
 
   pub last-same : (names : Action → List ℕ) (r : Printed) → r ≡ printed_of s count bytes → r.more ≡ false
-      → shown r.text ≡ cond (out_of_range s) (stop_text count 10) (named_by_one names count (one_of s bytes))
-  last-same names r e h = ap (λ (x : Printed). shown x.text) e ∙ last-all names (ap (λ (x : Printed). x.more) (sym e) ∙ h)
+      → r.text ≡ cond (out_of_range s) (stop_text count 10) (named_by_one names count (one_of s bytes))
+  last-same names r e h = ap (λ (x : Printed). x.text) e ∙ last-all names (ap (λ (x : Printed). x.more) (sym e) ∙ h)
 
   pub took-same : (names : Action → List ℕ) (r : Printed) (k : Took s count bytes r)
       → named_call_text names r.count k.line.call k.line.after ≡ cond (out_of_range s) (stop_text count 10) (named_by_one names count (one_of s bytes))

@@ -7,8 +7,6 @@ use Rattle.record_form.specs.declared.RecordRead.{RecordRead}
 use Rattle.record_form.specs.declared.RecordRead.TheVariants.{Input, Output, Gap, End, Refused}
 use Rattle.session_record.specs.declared.Session.{Session}
 use Rattle.names.specs.Lookup.{name_of}
-use Rattle.line_text.specs.declared.Text.{Text}
-use Rattle.line_text.specs.Text.{text_of}
 use Rattle.printed.specs.Printed.{call_text}
 
 -- What a line shows of the record that was read: its kind, its action, of a gap its number of lost lines, and the name.
@@ -34,8 +32,8 @@ name_as site release (End stamp) = []
 name_as site release (Refused number) = []
 
 -- The text is the line of the call that the record at the front of the bytes is.
-pub record IsLine (bytes : List ℕ) (before number : ℕ) (line : Text) : Type 0 where
+pub record IsLine (bytes : List ℕ) (before number : ℕ) (line : List ℕ) : Type 0 where
   pub call : Call
   pub after : Session
   pub reads : read_as (record_answer bytes before) ≡ ReadAs.call call
-  pub text : line ≡ text_of (call_text number call after)
+  pub text : line ≡ call_text number call after

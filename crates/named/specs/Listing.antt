@@ -8,7 +8,6 @@ use Rattle.printout.specs.Text.{stop_text}
 use Rattle.printout.specs.Named.{named_header_text}
 use Rattle.printed.specs.Printed.{begun_of}
 use Rattle.printed.specs.Listing.{and_more}
-use Rattle.named_text.specs.Text.{named_shown}
 use Rattle.named.specs.Named.{named_of}
 use Rattle.name_list.specs.Read.{list_size, list_refusal}
 
@@ -16,7 +15,7 @@ use Rattle.name_list.specs.Read.{list_size, list_refusal}
 unfoldable pub named_lines_of : List ℕ → List ℕ → ℕ → Session → ℕ → List ℕ → List ℕ
 named_lines_of site release zero s count bytes = []
 named_lines_of site release (suc most) s count bytes =
-    named_shown (named_of site release s count (take record_size bytes)).text
+    (named_of site release s count (take record_size bytes)).text
     ++ cond (named_of site release s count (take record_size bytes)).more
     (named_lines_of site release most (named_of site release s count (take record_size bytes)).session
     (named_of site release s count (take record_size bytes)).count (drop record_size bytes))

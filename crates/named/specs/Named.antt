@@ -12,7 +12,6 @@ use Rattle.printout.specs.Named.{named_line_text}
 use Rattle.printed.specs.Printed.{one_after, kind_of, printed_of}
 use Rattle.names.specs.Lookup.{name_of}
 use Rattle.named.specs.declared.Named.{Named}
-use Rattle.named_text.specs.Text.{named_text_of}
 
 -- The name of each action by the two lists.
 abbrev pub names_of : List ℕ → List ℕ → Action → List ℕ
@@ -35,7 +34,7 @@ named_by_one names count (One.took c after) = named_call_text names (one_after c
 unfoldable pub named_of : List ℕ → List ℕ → Session → ℕ → List ℕ → Named
 named_of site release s count bytes =
     record {
-      text = named_text_of (cond (out_of_range s) (stop_text count 10) (named_by_one (names_of site release) count (one_of s bytes)));
+      text = cond (out_of_range s) (stop_text count 10) (named_by_one (names_of site release) count (one_of s bytes));
       session = (printed_of s count bytes).session;
       count = (printed_of s count bytes).count;
       more = (printed_of s count bytes).more;

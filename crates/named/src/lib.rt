@@ -2,21 +2,18 @@
 #![tactic(auto)]
 
 ghost use Rattle.std.specs.Prelude.{◌≡◌};
-ghost use Rattle.line_text.specs.Text.{text_of};
 ghost use Rattle.printout.specs.Named.{front_text};
-ghost use Rattle.named_text.specs.Text.{named_text_of};
 ghost use Rattle.named.specs.Named.{names_of, named_call_text, named_of};
 ghost use Rattle.named.specs.Insert.{kind_as, action_as, name_as, IsLine};
 
-use line_text::Text;
-use named_text::NamedText;
+use line_text::{Line, NamedLine};
 use record_form::RecordRead;
 use session_record::Session;
 
 // What a record adds to the listing, and what the next one starts from.
 #[derive(Clone, Copy)]
 pub struct Named {
-    pub text: NamedText,
+    pub text: NamedLine,
     pub session: Session,
     // The number of records taken so far.
     pub count: u64,
@@ -25,8 +22,8 @@ pub struct Named {
 }
 
 // The front of the line of the record that was read; what is no input or output is shown as a gap.
-fn front_of(number: u64, read: RecordRead) -> Text
-    ensures { result ≡ text_of (front_text number (kind_as read) (action_as read)) }
+fn front_of(number: u64, read: RecordRead) -> Line
+    ensures { result ≡ front_text number (kind_as read) (action_as read) }
 {
     match read {
         RecordRead::Input(action, _) => printout::front(number, 0, action),
@@ -57,15 +54,15 @@ fn named_line<'a>(
     bytes: &[u8],
     before: u64,
     number: u64,
-    line: Text,
-) -> NamedText
+    line: Line,
+) -> NamedLine
     requires { IsLine bytes.now before number line }
     ensures { (l : IsLine bytes.now before number line)
-        → result ≡ named_text_of (named_call_text (names_of site.now release.now) number l.call l.after) }
+        → result ≡ named_call_text (names_of site.now release.now) number l.call l.after }
 {
     let read = record_form::read_record(bytes, before);
     let front = front_of(number, read);
-    named_text::with_name(line, front.len, name_of(site, release, read))
+    named_text::with_name(line, front.len(), name_of(site, release, read))
 }
 
 // The record at the front of the bytes, after `count` that were taken: as `printed::record` lists it, with its name.

@@ -10,11 +10,9 @@ use Rattle.trace_form.proofs.Reader.{record_reads}
 use Rattle.session_record.specs.declared.Session.{Session}
 use Rattle.session_record.specs.Step.{fresh_of}
 use Rattle.printed.proofs.Whole.{short_last}
-use Rattle.named_text.specs.Text.{named_room, named_shown}
 use Rattle.named.specs.declared.Named.{Named}
 use Rattle.named.specs.Named.{named_of}
 use Rattle.named.specs.Listing.{named_lines_of}
-use Rattle.named.proofs.Fits.{named_fits}
 use Rattle.listing_shell.proofs.SoFar.{OneAdds, OneByOne, SoFar, none_read, next-text, one_further}
 use Rattle.named_listing.specs.Next.{NamedFollows}
 use Rattle.named_listing.proofs.Some.{named_some}
@@ -22,7 +20,7 @@ use Rattle.named_listing.proofs.Some.{named_some}
 module _ (site release : List ℕ) where
   abbrev one-adds : Session → ℕ → List ℕ → OneAdds
   one-adds s count bytes =
-      let r = named_of site release s count bytes in record { text = named_shown r.text; session = r.session; count = r.count; more = r.more }
+      let r = named_of site release s count bytes in record { text = r.text; session = r.session; count = r.count; more = r.more }
 
   one_by_one : OneByOne record_size (named_lines_of site release) one-adds
   unfolding named_lines_of named_of
@@ -43,12 +41,9 @@ module _ (site release : List ℕ) where
 
   module _ (p : Property) {records : ℕ} {s : Session} {count : ℕ} (so_far : NamedSoFar p records s count) (bytes : List ℕ) (few : length bytes ≤ record_size)
       {r : Named} (is : r ≡ named_of site release s count bytes) where
-    -- The text of the next record is the next of the listing, and fits its room,
+    -- The text of the next record is the next of the listing,
     pub named_next : NamedFollows site release p records r.text
     named_next = subst (λ (x : Named). NamedFollows site release p records x.text) (sym is) (next-text (fresh_of p).session one_by_one so_far bytes few)
-
-    pub named_in_room : r.text.len ≤ named_room
-    named_in_room = subst (λ (x : Named). x.text.len ≤ named_room) (sym is) (named_fits site release s count bytes)
 
     -- and with it one record more was added, if the listing goes on.
     pub named_on : r.more ≡ true → NamedSoFar p (records + 1) r.session r.count

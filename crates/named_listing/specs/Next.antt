@@ -4,8 +4,6 @@ use Rattle.property.specs.declared.Property.{Property}
 use Rattle.record_form.specs.Record.{record_size}
 use Rattle.session_record.specs.Step.{fresh_of}
 use Rattle.name_list.specs.Read.{list_size, list_refusal}
-use Rattle.named_text.specs.declared.NamedText.{NamedText}
-use Rattle.named_text.specs.Text.{named_shown}
 use Rattle.named.specs.Listing.{named_lines_of}
 use Rattle.listing_shell.specs.Next.{NextText}
 use Rattle.named_listing.specs.declared.ListRead.{ListRead}
@@ -18,6 +16,6 @@ pub record ListCame (of_release : Bool) (list : List ℕ) (r : ListRead) : Type 
   pub judged : r.refusal ≡ list_refusal (cond of_release 12 11) head (take r.len list)
 
 -- The text is the next of the listing with names behind a property, after so many records.
-abbrev pub NamedFollows : List ℕ → List ℕ → Property → ℕ → NamedText → Type 0
+abbrev pub NamedFollows : List ℕ → List ℕ → Property → ℕ → List ℕ → Type 0
 NamedFollows site release p records text =
-    NextText record_size (λ most bytes. named_lines_of site release most (fresh_of p).session 0 bytes) records (named_shown text)
+    NextText record_size (λ most bytes. named_lines_of site release most (fresh_of p).session 0 bytes) records text

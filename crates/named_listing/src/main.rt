@@ -6,10 +6,9 @@
 ghost use Rattle.std.specs.Prelude.{◌≤◌, ◌≡◌, true, length};
 ghost use Rattle.io.specs.Counts.{IsPrefixLen};
 ghost use Rattle.session_record.specs.Step.{fresh_of};
-ghost use Rattle.named_text.specs.Text.{named_room};
 ghost use Rattle.named_listing.specs.Next.{ListCame, NamedFollows};
 
-use named_text::NamedText;
+use line_text::NamedLine;
 use property::Property;
 use session_record::Session;
 use std::io::{Read, Write};
@@ -44,17 +43,17 @@ fn put<'a, W: Write>(
     release: &'a [u8],
     p: Property,
     records: u64,
-    text: NamedText,
+    text: NamedLine,
     more: bool,
 ) -> bool
-    requires { NamedFollows site.now release.now p records text × (text.len ≤ named_room) }
+    requires { NamedFollows site.now release.now p records text }
     ensures { result ≡ true → more ≡ true }
 {
-    listing_shell::write_front(out, &text.bytes, text.len) && more
+    listing_shell::shown(out, text, more)
 }
 
 // Lists the records. A proved loop has to end, and nothing says that the input does: the loop counts its turns, up to a number that no
-// run comes to.
+// run comes to. It is not one with `listing_shell::records`: what a turn hands on to the next is another, and so is each fact of it.
 fn records<'a, R: Read, W: Write>(
     input: &mut R,
     out: &mut W,

@@ -1,3 +1,2 @@
--- The definitions: the text of a line with a name. `Behind`, which only the private functions name, comes after.
+-- The definitions: a line with a name in it.
 pub mod Text
-pub mod Behind

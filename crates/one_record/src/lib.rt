@@ -15,8 +15,10 @@ use session_record::{Lent, Told};
 // What a record did that was not refused.
 #[derive(Clone, Copy)]
 pub enum Did {
-    // It was taken, and this was told.
-    Took(Told),
+    // A line was taken, and this was told.
+    Line(Line, Told),
+    // So was a gap mark, with its number of lost lines and its stamp.
+    Gap(u8, u64, Told),
     // It is the end of the trace.
     Ended,
 }
@@ -25,25 +27,28 @@ pub enum Did {
 pub fn take(lent: &mut Lent<'_>, read: Result<Record, Refusal>) -> Result<Did, Refusal>
     ensures { Takes (memory_in lent.old) (case_as (read_case read)) (doing_in result) (memory_in lent.new) }
 {
-    let told = match read? {
-        Record::Input(action, stamp) => in_place::line(
-            lent,
-            Line {
+    match read? {
+        Record::Input(action, stamp) => {
+            let line = Line {
                 output: false,
                 action,
                 stamp,
-            },
-        ),
-        Record::Output(action, stamp) => in_place::line(
-            lent,
-            Line {
+            };
+            Ok(Did::Line(line, in_place::line(lent, line)?))
+        }
+        Record::Output(action, stamp) => {
+            let line = Line {
                 output: true,
                 action,
                 stamp,
-            },
-        ),
-        Record::Gap(lost, stamp) => gap_mark::mark(lent, lost, stamp),
-        Record::End(_) => return Ok(Did::Ended),
-    };
-    Ok(Did::Took(told?))
+            };
+            Ok(Did::Line(line, in_place::line(lent, line)?))
+        }
+        Record::Gap(lost, stamp) => Ok(Did::Gap(
+            lost,
+            stamp,
+            gap_mark::mark(lent, lost, stamp)?,
+        )),
+        Record::End(_) => Ok(Did::Ended),
+    }
 }

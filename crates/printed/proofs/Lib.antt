@@ -2,7 +2,6 @@
 pub mod Standing
 pub mod Listed
 pub mod Tidied
-pub mod Fits
 pub mod Walks
 pub mod Determined
 pub mod Listing

@@ -19,7 +19,6 @@ use Rattle.one_record.specs.Takes.{Takes}
 use Rattle.one_record.proofs.Takes.{end_same, refused-same, end-taken, refused_stops}
 use Rattle.walk.specs.Walk.{One, one_call, try_call, one_read}
 use Rattle.walk.proofs.Dids.{refused_stays}
-use Rattle.line_text.specs.Text.{text_of}
 use Rattle.printout.specs.Text.{line_text, end_text, stop_text}
 use Rattle.printed.specs.declared.Printed.{Printed}
 use Rattle.printed.specs.declared.lent.Added.{Added}
@@ -52,10 +51,10 @@ read-adds reader m count bytes e h a =
 
 -- ---- the property
 
-pub none_opens : (n : ℕ) → n ≡ 0 → text_of [] ≡ text_of (opening_text n)
-none_opens n e = ap (λ (m : ℕ). text_of (opening_text m)) (sym e)
+pub none_opens : (n : ℕ) → n ≡ 0 → [] ≡ opening_text n
+none_opens n e = ap opening_text (sym e)
 
-pub stop_opens : (n : ℕ) → (n ≡ 0 → ⊥) → text_of (stop_text 0 n) ≡ text_of (opening_text n)
+pub stop_opens : (n : ℕ) → (n ≡ 0 → ⊥) → stop_text 0 n ≡ opening_text n
 stop_opens zero h = absurd (h refl)
 stop_opens (suc n) h = refl
 
@@ -110,7 +109,7 @@ module _ (m : Memory) (count : ℕ) (a : Answer) (status : Status) (next : Memor
       added n = unless_refused n (next_added status count line) (stop n)
 
       go : (n : ℕ) → (stepped_of s c).answer.refusal ≡ n → by_one s count (one_call s c n) ≡ in_session (added n) after
-      go zero z = unfold one_call by_one in (λ i. record { text = text_of (sym (shows z) i); session = same i; count = one_after count; more = true })
+      go zero z = unfold one_call by_one in (λ i. record { text = sym (shows z) i; session = same i; count = one_after count; more = true })
       go (suc n) z = unfold one_call by_one in (ap (λ (y : Session). last_line y count (stop_text count (suc n))) (sym (refused_stays s c n z) ∙ same))
 
   line-listed : (output : Bool) (action stamp : ℕ) → Takes m (ReadAs.call (Call.line (line_of output action stamp))) a next

@@ -1,5 +1,5 @@
 -- What one record adds to the whole listing: the line of a call that is taken, or the last line.
-use Rattle.std.proofs.Common.{◌≡◌, ℕ, suc, false, List, [], ◌++◌, take, drop, refl, ap, ◌∙◌, append-nil}
+use Rattle.std.proofs.Common.{◌≡◌, ℕ, suc, false, List, ◌++◌, take, drop, refl, ap, ◌∙◌, append-nil}
 use Rattle.meaning.specs.Calls.{Call}
 use Rattle.record_form.specs.Record.{Reader, RecordAnswer}
 use Rattle.trace_form.specs.ReadAs.{ReadAs, read_as}
@@ -8,9 +8,7 @@ use Rattle.session_record.specs.declared.Session.{Session}
 use Rattle.session_record.specs.Record.{latest_of, out_of_range}
 use Rattle.session_record.specs.Step.{stepped_of}
 use Rattle.walk.specs.Walk.{One, one_call, one_read}
-use Rattle.line_text.specs.Text.{text_of}
 use Rattle.printout.specs.Text.{end_text, stop_text}
-use Rattle.line_text.proofs.Held.{text-held}
 use Rattle.printed.specs.declared.Printed.{Printed}
 use Rattle.printed.specs.Printed.{one_after, call_text, by_one}
 use Rattle.printed.specs.Listing.{and_more, lines_by}
@@ -30,9 +28,6 @@ module _ (size : ℕ) (reader : Reader) (reads : Reads size reader) (most : ℕ)
       ∙ ap (λ (y : ReadAs). by_one s count (one_read s y)) e
       ∙ ap (by_one s count) q)
 
-  last-shown : (line : List ℕ) → take (text_of line).len (text_of line).bytes ++ [] ≡ line
-  last-shown line = append-nil _ ∙ text-held line
-
   -- a call that is taken adds its line
   pub took-line : (c : Call) → read_as (reader bytes (latest_of s)) ≡ ReadAs.call c → (stepped_of s c).answer.refusal ≡ 0
       → lines_by size reader (suc most) s count bytes
@@ -47,18 +42,17 @@ module _ (size : ℕ) (reader : Reader) (reads : Reads size reader) (most : ℕ)
 
       shows : added (One.took c after) ≡ call_text (one_after count) c after ++ lines_by size reader most after (one_after count) (drop size bytes)
       shows =
-          unfold by_one in
-          (ap (λ (l : List ℕ). l ++ lines_by size reader most after (one_after count) (drop size bytes)) (text-held (call_text (one_after count) c after)))
+          unfold by_one in refl
 
   -- a refused record, or call, adds the last line, and so does an end
   pub refused-line : (x : ReadAs) → read_as (reader bytes (latest_of s)) ≡ x → (n : ℕ) → one_read s x ≡ One.refused n → lines_by size reader (suc most) s count bytes ≡ stop_text count n
   refused-line x e n q = by_read x e (One.refused n) q ∙ shows
     where
       shows : added (One.refused n) ≡ stop_text count n
-      shows = unfold by_one in (last-shown (stop_text count n))
+      shows = unfold by_one in (append-nil _)
 
   pub end_line : read_as (reader bytes (latest_of s)) ≡ ReadAs.end → lines_by size reader (suc most) s count bytes ≡ end_text count
   end_line e = by_read ReadAs.end e One.ended (unfold one_read in refl) ∙ shows
     where
       shows : added One.ended ≡ end_text count
-      shows = unfold by_one in (last-shown (end_text count))
+      shows = unfold by_one in (append-nil _)

@@ -10,18 +10,16 @@ use Rattle.session_record.specs.declared.Session.{Session}
 use Rattle.session_record.specs.Record.{latest_of, out_of_range}
 use Rattle.session_record.specs.Step.{fresh_of}
 use Rattle.walk.specs.Walk.{one_read}
-use Rattle.line_text.specs.Text.{text_of}
 use Rattle.printout.specs.Text.{header_text, stop_text}
-use Rattle.line_text.proofs.Held.{text-held}
 use Rattle.printed.specs.declared.Printed.{Printed}
 use Rattle.printed.specs.Printed.{last_line, by_one, printed_by, opening_text, begun_of}
-use Rattle.printed.specs.Listing.{shown, and_more, lines_by, records_by, listing_by}
+use Rattle.printed.specs.Listing.{and_more, lines_by, records_by, listing_by}
 
 -- ---- the loop
 
 -- behind a last line nothing is added
 last-alone : (r : Printed) (rest rest' : List ℕ) → r.more ≡ false → and_more r rest ≡ and_more r rest'
-last-alone r rest rest' e = ap (λ (t : Bool). shown r.text ++ cond t rest []) e ∙ ap (λ (t : Bool). shown r.text ++ cond t rest' []) (sym e)
+last-alone r rest rest' e = ap (λ (t : Bool). r.text ++ cond t rest []) e ∙ ap (λ (t : Bool). r.text ++ cond t rest' []) (sym e)
 
 module _ (size : ℕ) (reader : Reader) (reads : Reads size reader) where
   -- Fewer bytes than a record are the last.
@@ -77,19 +75,19 @@ module _ (size : ℕ) (reader : Reader) where
   abbrev by_number : List ℕ → List ℕ → ℕ → List ℕ
   by_number property records n =
       header_text
-      ++ and_more (record { text = text_of (opening_text n); session = started property; count = 0; more = eqb n 0 }) (records_by size reader (started property) 0 records)
+      ++ and_more (record { text = opening_text n; session = started property; count = 0; more = eqb n 0 }) (records_by size reader (started property) 0 records)
 
   -- A property that is taken: the header, and what the records add to a fresh session.
   pub listing_taken : (property records : List ℕ) → (read property).refusal ≡ 0
       → listing_by size reader property records ≡ header_text ++ records_by size reader (fresh_of (read property).property).session 0 records
   unfolding listing_by begun_of
   listing_taken property records e =
-      ap (by_number property records) e ∙ ap (λ (l : List ℕ). header_text ++ (l ++ records_by size reader (started property) 0 records)) (text-held [])
+      ap (by_number property records) e
 
   -- "A refused property prints the header and `stop 0` with its number"
   pub listing_refused : (property records : List ℕ) (n : ℕ) → (read property).refusal ≡ suc n → listing_by size reader property records ≡ header_text ++ stop_text 0 (suc n)
   unfolding listing_by begun_of
   listing_refused property records n e =
       ap (by_number property records) e
-      ∙ ap (λ (b : Bool). header_text ++ (shown (text_of (stop_text 0 (suc n))) ++ cond b (records_by size reader (started property) 0 records) [])) (eqb-suc-zero n)
-      ∙ ap (λ (l : List ℕ). header_text ++ l) (append-nil _ ∙ text-held (stop_text 0 (suc n)))
+      ∙ ap (λ (b : Bool). header_text ++ (stop_text 0 (suc n) ++ cond b (records_by size reader (started property) 0 records) [])) (eqb-suc-zero n)
+      ∙ ap (λ (l : List ℕ). header_text ++ l) (append-nil _)

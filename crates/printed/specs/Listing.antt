@@ -2,18 +2,13 @@
 use Rattle.std.specs.Prelude.{ℕ, zero, suc, cond, List, [], ◌++◌, length, take, drop}
 use Rattle.record_form.specs.Record.{Reader, record_size, record_answer}
 use Rattle.session_record.specs.declared.Session.{Session}
-use Rattle.line_text.specs.declared.Text.{Text}
 use Rattle.printout.specs.Text.{header_text}
 use Rattle.printed.specs.declared.Printed.{Printed}
 use Rattle.printed.specs.Printed.{printed_by, begun_of}
 
--- The bytes of a text.
-abbrev pub shown : Text → List ℕ
-shown t = take t.len t.bytes
-
 -- What one part of the input adds, and behind it what the next parts add, unless this was the last line.
 abbrev pub and_more : Printed → List ℕ → List ℕ
-and_more r rest = shown r.text ++ cond r.more rest []
+and_more r rest = r.text ++ cond r.more rest []
 
 -- What at most so many records add, after `count` that were taken: as many bytes as a record has are read at a time.
 unfoldable pub lines_by : (size : ℕ) → Reader → ℕ → Session → ℕ → List ℕ → List ℕ

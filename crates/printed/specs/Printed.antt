@@ -9,7 +9,6 @@ use Rattle.session_record.specs.declared.Session.{Session}
 use Rattle.session_record.specs.Record.{count_of, latest_of, out_of_range}
 use Rattle.session_record.specs.Step.{fresh_of, standing}
 use Rattle.walk.specs.Walk.{One, one_read}
-use Rattle.line_text.specs.Text.{text_of}
 use Rattle.printout.specs.Text.{line_text, end_text, stop_text}
 use Rattle.printed.specs.declared.Printed.{Printed}
 
@@ -31,7 +30,7 @@ call_text number (Call.mark g) after = line_text number gap g.lost g.stamp (stan
 
 -- The listing ends with this line; the session and the count are as they were.
 abbrev pub last_line : Session → ℕ → List ℕ → Printed
-last_line s count text = record { text = text_of text; session = s; count = count; more = false }
+last_line s count text = record { text = text; session = s; count = count; more = false }
 
 -- By what a record does to the session: "The last line counts the records taken; after a refusal it is `stop`, the count and
 -- the refusal number instead."
@@ -39,7 +38,7 @@ unfoldable pub by_one : Session → ℕ → One → Printed
 by_one s count One.ended = last_line s count (end_text count)
 by_one s count (One.refused n) = last_line s count (stop_text count n)
 by_one s count (One.took c after) =
-    record { text = text_of (call_text (one_after count) c after); session = after; count = one_after count; more = true }
+    record { text = call_text (one_after count) c after; session = after; count = one_after count; more = true }
 
 -- What the record that a reader reads from the front of the bytes adds, after so many that were taken. As in a walk, refusal 10
 -- comes first, and the stamp before is the session's latest.
@@ -60,7 +59,7 @@ opening_text (suc n) = stop_text 0 (suc n)
 unfoldable pub begun_of : List ℕ → Printed
 begun_of bytes =
     record {
-      text = text_of (opening_text (read bytes).refusal);
+      text = opening_text (read bytes).refusal;
       session = (fresh_of (read bytes).property).session;
       count = 0;
       more = ((read bytes).refusal == 0);

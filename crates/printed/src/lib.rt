@@ -8,7 +8,7 @@ ghost use Rattle.property_form.specs.Form.{form_size};
 ghost use Rattle.property_form.specs.Read.{length_read};
 ghost use Rattle.printed.specs.Printed.{printed_of, begun_of};
 
-use line_text::Text;
+use line_text::Line;
 use outcomes::Refusal;
 use session_record::{Lent, Session, made, rows_of, unfit};
 use table::Steps;
@@ -16,7 +16,7 @@ use table::Steps;
 // What one part of the input adds to the listing, and what the next part starts from.
 #[derive(Clone, Copy)]
 pub struct Printed {
-    pub text: Text,
+    pub text: Line,
     pub session: Session,
     // The number of records taken so far.
     pub count: u64,
@@ -59,7 +59,7 @@ pub fn size(first: u8) -> usize
 {
     let front = [first];
     let n = fields::field_at(&front, 0, 6);
-    (122 + 7 * n as usize + 7) / 8
+    (122 + 7 * n as usize).div_ceil(8)
 }
 
 // The property at the front of the bytes, and a fresh session for it: nothing is added behind the header, or the last line.
@@ -68,7 +68,7 @@ pub fn begin(bytes: &[u8]) -> Printed
 {
     match property_form::read_property(bytes) {
         Ok(p) => Printed {
-            text: line_text::empty(),
+            text: Line::empty(),
             session: session::fresh(p).session,
             count: 0,
             more: true,

@@ -1,4 +1,3 @@
--- The proofs that belong to no one function: that every text fits, that each promise determines its result, and document 01's listing.
-pub mod Fits
+-- The proofs that belong to no one function: that each promise determines its result, and document 01's listing.
 pub mod Determined
 pub mod Example

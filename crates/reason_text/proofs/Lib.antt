@@ -1,5 +1,3 @@
--- The proofs that belong to no one function: moments, that every text fits, that each promise determines its result, and a worked one.
-pub mod Moments
-pub mod Fits
+-- The proofs that belong to no one function: that each promise determines its result, and a worked one.
 pub mod Determined
 pub mod Example

@@ -1,35 +1,33 @@
-// A property: read from the bytes of a script, and printed.
-use crate::text::Page;
-use crate::{arguments, text};
+// A property: taken from a script, and printed.
+use crate::arguments::Arguments;
+use crate::text::used;
 use property::Property;
-
-// So many bytes of a script.
-pub const SIZE: usize = 96;
+use std::fmt;
+use std::fmt::{Display, Formatter};
 
 // n, 32 directions, 32 numbers, allowed, LB, UB.
-pub fn read(s: &[u8]) -> Property {
-    let mut output = [false; 32];
-    arguments::flags(arguments::behind(s, 8), &mut output);
-    let mut number = [0u8; 32];
-    arguments::bytes(arguments::behind(s, 40), &mut number);
+pub fn read(arguments: &mut Arguments<'_>) -> Property {
     Property {
-        n: arguments::size_at(s, 0),
-        output: output,
-        number: number,
-        allowed: arguments::word_at(s, 72),
-        lb: arguments::word_at(s, 80),
-        ub: arguments::word_at(s, 88),
+        n: arguments.size(),
+        output: arguments.bytes().map(|b| b != 0),
+        number: arguments.bytes(),
+        allowed: arguments.word(),
+        lb: arguments.word(),
+        ub: arguments.word(),
     }
 }
 
 // Three lines.
-pub fn put(out: &mut Page, at: usize, p: Property) -> usize {
-    let numbers = [p.n as u64, p.allowed, p.lb, p.ub];
-    let first = text::put_line(out, at, b"property", &numbers, 4);
-    let output = p.output;
-    let directions = text::wide_flags(&output);
-    let second = text::put_used(out, first, b"directions", &directions);
-    let number = p.number;
-    let actions = text::wide_bytes(&number);
-    text::put_used(out, second, b"numbers", &actions)
+#[derive(Clone, Copy)]
+pub struct PropertyText<'a>(pub &'a Property);
+
+impl Display for PropertyText<'_> {
+    fn fmt<W: fmt::Write>(&self, f: &mut Formatter<W>) -> fmt::Result {
+        let p = self.0;
+        let directions = p.output.map(u64::from);
+        let numbers = p.number.map(u64::from);
+        writeln!(f, "property {} {} {} {}", p.n, p.allowed, p.lb, p.ub)?;
+        writeln!(f, "directions{}", used(&directions))?;
+        writeln!(f, "numbers{}", used(&numbers))
+    }
 }

@@ -15,9 +15,9 @@ pub type Table = [u8; 4257];
 
 // An output or an input, and its number. ?3 and !3 have nothing in common.
 #[derive(Clone, Copy, PartialEq, Eq)]
-struct Action {
-    output: bool,
-    number: u8,
+pub struct Action {
+    pub output: bool,
+    pub number: u8,
 }
 
 impl Action {
@@ -39,7 +39,7 @@ fn goes_on(sequence: &[Action], k: usize, j: usize, action: Action) -> bool
 
 // "After a mismatch the matcher must fall back to the longest shorter beginning of the sequence that ends there, found by
 // the same question on a smaller length."
-fn fall_back(sequence: &[Action], k: usize, action: Action, j: usize) -> usize
+pub fn fall_back(sequence: &[Action], k: usize, action: Action, j: usize) -> usize
     requires { (length sequence.now ≤ 32) × (j ≤ k) × (k ≤ length sequence.now) }
     ensures { result ≡ Matcher.fall_back (at_place sequence.now) (length sequence.now) k (said action) j }
 {

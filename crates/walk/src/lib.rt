@@ -9,7 +9,7 @@ ghost use Rattle.walk.specs.Lent.{HasGone};
 
 use one_record::Did;
 use outcomes::Refusal;
-use record_form::{RECORD_SIZE, Record};
+use record_form::RECORD_SIZE;
 use session_record::{Lent, Session, made, rows_of, unfit};
 use table::Steps;
 
@@ -58,11 +58,10 @@ pub fn records(lent: &mut Lent<'_>, trace: &[u8], budget: usize) -> Went
     for taken in 0..budget {
         let read = record_form::read_record(&trace[at..], lent.status.clock.latest);
         match one_record::take(lent, read) {
-            Ok(Did::Took(_)) => {
+            Ok(Did::Line(_, _)) => at += RECORD_SIZE,
+            Ok(Did::Gap(number, _, _)) => {
                 at += RECORD_SIZE;
-                if let Ok(Record::Gap(number, _)) = read {
-                    lost = number;
-                }
+                lost = number;
             }
             Ok(Did::Ended) => {
                 return Went {

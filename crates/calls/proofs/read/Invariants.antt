@@ -3,7 +3,7 @@ use Rattle.std.proofs.Common.{◌≡◌, ◌-◌, ◌≤◌, length}
 use Rattle.calls.proofs.read.Given as goal
 
 abbrev pub invariant-loop-done : goal.invariant-loop-done
-invariant-loop-done g l = (l.done ≤ length l.calls) × (length l.calls ≡ length l.initial.calls)
+invariant-loop-done g l = (l.done ≤ length l.script) × (length l.script ≡ length l.initial.script)
 
 abbrev pub decreases-loop-done : goal.decreases-loop-done
-decreases-loop-done g l = length l.calls - l.done
+decreases-loop-done g l = length l.script - l.done

@@ -1,13 +1,11 @@
--- `listing_shell::begun` meets its contract: what the property adds is that of the bytes that came, and fits its room.
+-- `listing_shell::begun` meets its contract: what the property adds is that of the bytes that came.
 use Rattle.std.proofs.Common.{◌≡◌, ◌≤◌, ℕ, List, true, false, refl, sym, subst, take}
 use Rattle.io.specs.Counts.{IsPrefixLen}
 use Rattle.property_form.specs.Form.{form_size}
 use Rattle.property_form.specs.Read.{length_read}
 use Rattle.session_record.specs.Record.{out_of_range}
-use Rattle.line_text.specs.Text.{room}
 use Rattle.printed.specs.declared.Printed.{Printed}
 use Rattle.printed.specs.Printed.{begun_of}
-use Rattle.printed.proofs.Fits.{begun-fits}
 use Rattle.printed.proofs.Walks.{begins_fit}
 use Rattle.listing_shell.specs.Next.{Begun}
 use Rattle.listing_shell.proofs.begun.Goals as goal
@@ -19,5 +17,5 @@ begins n form h = record { bytes = take n form; few = subst (λ (k : ℕ). k ≤
 pub returns : goal.returns
 returns g c =
     let f = c.read_form-got in
-    subst (λ (p : Printed). Begun p × (p.text.len ≤ room) × (p.more ≡ true → out_of_range p.session ≡ false)) (sym c.begin.ensures)
-    (begins f.result f.new.form f.ensures, begun-fits _, begins_fit _)
+    subst (λ (p : Printed). Begun p × (p.more ≡ true → out_of_range p.session ≡ false)) (sym c.begin.ensures)
+    (begins f.result f.new.form f.ensures, begins_fit _)

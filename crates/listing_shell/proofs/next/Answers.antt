@@ -1,4 +1,4 @@
--- `listing_shell::next` meets its contract: what a record adds fits its room, and the rows are ready for the next one.
+-- `listing_shell::next` meets its contract: what was added is what its bytes give, and the rows are ready for the next record.
 use Rattle.std.proofs.Common.{ℕ, length-take, arith}
 use Rattle.session_record.specs.Lent.{memory}
 use Rattle.listing_shell.proofs.Listed.{front-few, lists}

@@ -2,7 +2,7 @@
 -- record more.
 use Rattle.session_record.proofs.Range.{ranged}
 use Rattle.session_record.proofs.Ready.{lent-ready}
-use Rattle.listing_shell.proofs.Listed.{rows-fresh, lists_fits, none-listed, lists_next, lists_on}
+use Rattle.listing_shell.proofs.Listed.{rows-fresh, none-listed, lists_next, lists_on}
 use Rattle.std.proofs.Common.{rules}
 use Rattle.listing_shell.proofs.records.Goals as goal
 
@@ -18,8 +18,7 @@ loop-turns-init g c =
 
 pub put-requires : goal.put-requires
 put-requires g c =
-    let n = c.next-r in
-    (lists_next c.args.s.property c.loop-turns.invariant.2 n.ensures, lists_fits n.ensures)
+    lists_next c.args.s.property c.loop-turns.invariant.2 c.next-r.ensures
 
 pub loop-turns-preserved : goal.loop-turns-preserved
 loop-turns-preserved g c =

@@ -1,5 +1,5 @@
 -- `matcher::arranged` meets its contract: the whole match is taken from the one word and put into the other.
-use Prim.Native.Nat.{ℕ, suc, ◌*◌, ◌+◌, ◌-◌, ◌<◌, ◌%◌, ◌^◌}
+use Prim.Native.Nat.{ℕ, suc, ◌*◌, ◌+◌, ◌-◌, ◌≤◌, ◌<◌, ◌%◌, ◌^◌}
 use mathlib.Core.Path.{◌≡◌, refl, sym, subst, ◌∙◌}
 use mathlib.Core.Bool.{Bool, true, false, cond}
 use native.Mathlib.Omega.{arith}
@@ -14,21 +14,23 @@ byte_is : (b : Bool) → bool_byte b ≡ cond b 1 0
 byte_is true = refl
 byte_is false = refl
 
-up_low : (n free low still : ℕ) → free < 2 ^ suc n → still < 2 ^ suc n → bit_or (free - low) still < 2 ^ suc n
-up_low n free low still f s = or_lt (suc n) (free - low) still (omega arith) s
+-- Whatever lengths stand beside those that stay armed, the word has room for them and for broken: what must fail does so in `returns`.
+module _ (n x still : ℕ) (few : n ≤ 32) (f : x < 2 ^ suc n) (s : still < 2 ^ suc n) where
+  room : bit_or x still * 2 < 2 ^ 64
+  room = omega (arith, few-lengths n few, or_lt (suc n) x still f s)
+
+  room_for : (b : ℕ) → b < 2 → bit_or x still * 2 + b < 2 ^ 64
+  room_for b h = omega (arith, few-lengths n few, or_lt (suc n) x still f s)
 
 pub overflow_sub-low : goal.overflow_sub-low
 overflow_sub-low c = ones_pos c.args.n c.requires.0
 
 pub overflow_mul-result : goal.overflow_mul-result
-overflow_mul-result c =
-    let a = c.args in
-    record { fits = omega (arith, few-lengths a.n c.requires.0, up_low a.n a.free (bit_and a.free ((1 * 2 ^ a.n) % 2 ^ 64 - 1)) a.still c.requires.1 c.requires.2) }
+overflow_mul-result c = record { fits = room c.args.n _ c.args.still c.requires.0 (omega arith) c.requires.2 }
 
 pub overflow_add-result : goal.overflow_add-result
 overflow_add-result c =
-    let a = c.args in
-    record { fits = omega (arith, put_lt a.broken, c.from.ensures ∙ byte_is a.broken, few-lengths a.n c.requires.0, up_low a.n a.free (bit_and a.free ((1 * 2 ^ a.n) % 2 ^ 64 - 1)) a.still c.requires.1 c.requires.2) }
+    record { fits = room_for c.args.n _ c.args.still c.requires.0 (omega arith) c.requires.2 _ (omega (arith, put_lt c.args.broken, c.from.ensures ∙ byte_is c.args.broken)) }
 
 pub returns : goal.returns
 returns c =

@@ -1,15 +1,11 @@
 -- `named::record` meets its contract: as `printed::record` lists it, with the name in a line of a call.
-use Prim.Native.Nat.{ℕ, ◌≤◌}
-use mathlib.Core.Path.{◌≡◌, sym, ◌∙◌, ap, subst}
+use Prim.Native.Nat.{ℕ}
+use mathlib.Core.Path.{◌≡◌, sym, ◌∙◌, ap}
 use mathlib.Core.List.{List}
 use mathlib.Core.Bool.{true}
 use Rattle.meaning.specs.Words.{Action}
-use Rattle.line_text.specs.Text.{room}
-use Rattle.record_form.specs.Record.{record_answer}
-use Rattle.printed.proofs.Fits.{printed_fits}
 use Rattle.printed.specs.declared.Printed.{Printed}
 use Rattle.named.specs.Named.{names_of, named_of}
-use Rattle.named_text.specs.Text.{named_text_of}
 use Rattle.named.proofs.Lines.{Took, took, took-same, last-same}
 use Rattle.named.proofs.record.Goals as goal
 use Rattle.named.proofs.record.Goals.{After-record-r}
@@ -27,16 +23,11 @@ returns-then-r c =
     let names : Action → List ℕ = names_of a.site.now a.release.now in
     let t = went (goal.at.returns-then-r c).After-record-r c.if-r.true in
     λ i. record {
-      text = (c.named_line.ensures t.line ∙ ap named_text_of (took-same a.s a.count a.bytes.now names c.record-r.result t)) i;
+      text = (c.named_line.ensures t.line ∙ took-same a.s a.count a.bytes.now names c.record-r.result t) i;
       session = (c.record-r.ensures i).session;
       count = (c.record-r.ensures i).count;
       more = (sym c.if-r.true ∙ ap (λ (x : Printed). x.more) c.record-r.ensures) i;
     }
-
-pub unnamed-requires : goal.unnamed-requires
-unnamed-requires c =
-    let a = c.args in
-    subst (λ (x : Printed). x.text.len ≤ room) (sym c.record-r.ensures) (printed_fits record_answer a.s a.count a.bytes.now)
 
 pub returns : goal.returns
 unfolding named_of
@@ -44,7 +35,7 @@ returns c =
     let a = c.args in
     let names : Action → List ℕ = names_of a.site.now a.release.now in
     λ i. record {
-      text = (c.unnamed.ensures ∙ ap named_text_of (last-same a.s a.count a.bytes.now names c.record-r.result c.record-r.ensures c.if-r.false)) i;
+      text = (c.unnamed.ensures ∙ last-same a.s a.count a.bytes.now names c.record-r.result c.record-r.ensures c.if-r.false) i;
       session = (c.record-r.ensures i).session;
       count = (c.record-r.ensures i).count;
       more = (sym c.if-r.false ∙ ap (λ (x : Printed). x.more) c.record-r.ensures) i;

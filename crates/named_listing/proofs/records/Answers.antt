@@ -1,7 +1,7 @@
--- `named_listing::records` is safe and ends: what is put is the next text of the listing with names and fits its room, and each turn is one record more.
+-- `named_listing::records` is safe and ends: what is put is the next text of the listing with names, and each turn is one record more.
 use Rattle.std.proofs.Common.{◌≡◌, ◌≤◌, ℕ, List, length, take, length-take, arith}
 use Rattle.record_form.specs.Record.{record_size}
-use Rattle.named_listing.proofs.Listed.{none_named, named_next, named_in_room, named_on}
+use Rattle.named_listing.proofs.Listed.{none_named, named_next, named_on}
 use Rattle.named_listing.proofs.records.Goals as goal
 
 -- no more bytes came than a record has
@@ -16,7 +16,7 @@ put-requires g c =
     let p = c.args.s.property in
     let so_far = c.loop-turns.invariant in
     let short = few c.read_full-got.result c.read_full-got.new.buf c.read_full-got.ensures.0 (omega arith) in
-    (named_next _ _ p so_far _ short c.record-r.ensures, named_in_room _ _ p so_far _ short c.record-r.ensures)
+    named_next _ _ p so_far _ short c.record-r.ensures
 
 pub loop-turns-preserved : goal.loop-turns-preserved
 loop-turns-preserved g c =

@@ -8,7 +8,6 @@ use Rattle.session_record.specs.Record.{latest_of, out_of_range}
 use Rattle.session_record.specs.Lent.{Memory, memory, memory_of}
 use Rattle.session_record.proofs.Range.{ranged}
 use Rattle.session_record.proofs.Ready.{lent-ready}
-use Rattle.line_text.specs.declared.Text.{Text}
 use Rattle.printed.specs.Lent.{Adds}
 use Rattle.printed.proofs.Listed.{named}
 use Rattle.printed.proofs.Tidied.{by_value_more, by_value_last}
@@ -34,7 +33,7 @@ adds k =
 pub returns-then-unfit : goal.returns-then-unfit
 returns-then-unfit c =
     let a = c.args in
-    ap (λ (x : Text). record { text = x; session = a.s; count = a.count; more = false }) c.stop.ensures
+    ap (λ (x : List ℕ). record { text = x; session = a.s; count = a.count; more = false }) c.stop.ensures
     ∙ sym (named record_answer a.s a.count a.bytes.now (sym c.unfit.ensures ∙ c.if-unfit.true))
 
 pub table-table-requires : goal.table-table-requires

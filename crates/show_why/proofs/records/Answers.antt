@@ -1,11 +1,7 @@
 -- `show_why::records` is safe and ends: the rows are ready before each record, what is kept is the run that is open, and each turn is one
 -- record more.
-use Rattle.std.proofs.Common.{◌≤◌, sym, subst, rules}
+use Rattle.std.proofs.Common.{rules}
 use Rattle.session_record.proofs.Ready.{fresh_means, fresh-ready}
-use Rattle.line_text.specs.declared.Text.{Text}
-use Rattle.line_text.specs.Text.{room}
-use Rattle.line_text.proofs.Held.{text_len}
-use Rattle.reason_text.proofs.Fits.{blind-fits}
 use Rattle.open_run.proofs.Keeping.{keeps-fresh}
 use Rattle.show_why.proofs.Going.{going_fresh, going_on, going_open}
 use Rattle.show_why.proofs.records.Goals as goal
@@ -23,9 +19,6 @@ loop-turns-init g c =
 
 pub loop-turns-preserved : goal.loop-turns-preserved
 loop-turns-preserved g c = (going_on _ _ _ c.loop-turns.invariant.0 c.next-r.ensures c.in-Took.is, search rules)
-
-pub write-requires : goal.write-requires
-write-requires g c = subst (λ (t : Text). t.len ≤ room) (sym c.blind.ensures) (text_len _ blind-fits)
 
 -- where a run is open at the end record
 pub tell-requires : goal.tell-requires

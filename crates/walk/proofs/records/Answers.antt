@@ -9,7 +9,7 @@ use Rattle.record_form.specs.Record.{IsRead}
 use Rattle.trace_form.specs.ReadAs.{case_as}
 use Rattle.session_record.specs.Step.{Answer}
 use Rattle.session_record.specs.Record.{latest_of}
-use Rattle.session_record.specs.Lent.{Memory, memory, record_in}
+use Rattle.session_record.specs.Lent.{Memory, record_in}
 use Rattle.one_record.specs.Takes.{Takes}
 use Rattle.walk.specs.declared.Did.{Did}
 use Rattle.walk.specs.declared.Turn.{Turn}
@@ -29,9 +29,11 @@ pub loop-taken-init : goal.loop-taken-init
 loop-taken-init c = (going_start _ _ _ c.requires.0, refl)
 
 pub loop-taken-preserved : goal.loop-taken-preserved
-loop-taken-preserved c =
-    (going_took c.loop-taken.invariant.0 _ _ c.loop-taken-test.true
-    (turned c.args.trace.now c.loop-taken.at c.read_record-read.ensures c.take-told.ensures c.done-turn.ensures c.in-Took.is), search rules)
+loop-taken-preserved c = (
+  going_took c.loop-taken.invariant.0 _ _ c.loop-taken-test.true
+      (turned c.args.trace.now c.loop-taken.at c.read_record-read.ensures c.take-told.ensures c.done-turn.ensures c.in-Took.is),
+  search rules,
+)
 
 pub returns-in-Ended : goal.returns-in-Ended
 returns-in-Ended c =

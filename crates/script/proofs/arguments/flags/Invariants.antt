@@ -1,9 +1,0 @@
--- `script::arguments::flags` is safe and ends. Each place is filled in turn.
-use Rattle.std.proofs.Common.{◌≡◌, ◌-◌, ◌≤◌, length}
-use Rattle.script.proofs.arguments.flags.Given as goal
-
-abbrev pub invariant-loop-i : goal.invariant-loop-i
-invariant-loop-i l = (l.i ≤ length l.initial.a) × (length l.a ≡ length l.initial.a)
-
-abbrev pub decreases-loop-i : goal.decreases-loop-i
-decreases-loop-i l = length l.initial.a - l.i

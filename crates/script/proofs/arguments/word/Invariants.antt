@@ -1,9 +1,0 @@
--- `script::arguments::word` is safe and ends. Eight bytes are read in turn.
-use Rattle.std.proofs.Common.{◌-◌, ◌≤◌}
-use Rattle.script.proofs.arguments.word.Given as goal
-
-abbrev pub invariant-loop-i : goal.invariant-loop-i
-invariant-loop-i l = l.i ≤ 8
-
-abbrev pub decreases-loop-i : goal.decreases-loop-i
-decreases-loop-i l = 8 - l.i

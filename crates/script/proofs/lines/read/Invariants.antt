@@ -1,9 +1,0 @@
--- `script::lines::read` is safe and ends. Each line is read in turn.
-use Rattle.std.proofs.Common.{◌-◌, ◌≤◌}
-use Rattle.script.proofs.lines.read.Given as goal
-
-abbrev pub invariant-loop-i : goal.invariant-loop-i
-invariant-loop-i l = l.i ≤ 512
-
-abbrev pub decreases-loop-i : goal.decreases-loop-i
-decreases-loop-i l = 512 - l.i
