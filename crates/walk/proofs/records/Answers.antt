@@ -1,6 +1,6 @@
 -- `walk::records` meets its contract. The loop: what has been taken, and what is left of the walk.
 use Rattle.std.specs.Prelude.{Ok}
-use mathlib.Core.Path.{◌≡◌, subst, ap, sym}
+use mathlib.Core.Path.{◌≡◌, subst}
 use Rattle.trace_form.specs.ReadAs.{ReadAs}
 use Rattle.session_record.specs.Lent.{Memory}
 use Rattle.session_record.specs.Loan.{memory_in}

@@ -9,9 +9,9 @@ use mathlib.Core.List.{List}
 use Rattle.property.specs.declared.Property.{Property}
 use Rattle.session_record.specs.declared.Session.{Session}
 use Rattle.session_record.specs.Record.{rows_of, out_of_range}
-use Rattle.session_record.specs.Lent.{Memory, memory, record_in, tidied, Ready}
+use Rattle.session_record.specs.Lent.{Memory, memory, record_in, tidied}
 use Rattle.session_record.proofs.Range.{ranged}
-use Rattle.session_record.proofs.Ready.{lent-ready}
+use Rattle.session_record.proofs.Lending.{lends, lent_is}
 use Rattle.walk.specs.Walk.{Stopping, Walk, Walking, stop_number, stop_refusal, walk_on, last_lost, budget_of, walk_of}
 use Rattle.walk.specs.Lent.{HasGone}
 use Rattle.walk.proofs.Going.{walk_refused}
@@ -30,7 +30,7 @@ module _ (s : Session) (fit : out_of_range s ≡ false) (p : Property) (own : p 
   w = record { taken = taken; stop = stop; read = read; session = record_in after }
 
   walked : walk_on (budget_of budget) (tidied s) bytes ≡ w
-  walked = (λ i. walk_on (limited budget n few i) (record_in (memory (sym own i) (sym same i) s.shared.status)) bytes) ∙ gone.walked
+  walked = (λ i. walk_on (limited budget n few i) (record_in (sym (lent_is s fit p own rows same) i)) bytes) ∙ gone.walked
 
   abbrev numbers : Session → Walking
   numbers x = record { taken = taken; stop = stop_number stop; refusal = stop_refusal stop; read = read; lost = lost; session = x }
@@ -54,10 +54,11 @@ new-steps-requires c = (ranged c.args.s (sym c.if-unfit.ensures)).formed
 
 pub invariant_of-lent : goal.invariant_of-lent
 invariant_of-lent c =
-    let s = c.args.s in
-    let ready : Ready (memory s.property c.rows_of-rows.result s.shared.status) =
-    lent-ready s (sym c.if-unfit.ensures) c.rows_of-rows.result c.rows_of-rows.ensures.0 c.rows_of-rows.ensures.2 in
-    record { ready = rw c.new-steps.ensures ready }
+    record {
+      ready =
+          lends c.args.s (sym c.if-unfit.ensures) c.new-steps.result.property c.new-steps.ensures c.rows_of-rows.result c.rows_of-rows.ensures.0
+          c.rows_of-rows.ensures.2;
+    }
 
 pub returns-then-went-eq0 : goal.returns-then-went-eq0
 returns-then-went-eq0 c =
