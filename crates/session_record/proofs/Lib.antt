@@ -8,3 +8,4 @@ pub mod Running
 pub mod Ready
 pub mod Making
 pub mod Same
+pub mod Lending

@@ -1,64 +1,28 @@
--- `session::line` meets its contract: refusal 10, or the call on the record's rows.
-use Prim.Native.Nat.{ℕ}
-use mathlib.Core.Path.{◌≡◌, sym, ap, subst, ◌∙◌}
-use mathlib.Core.Bool.{false}
-use mathlib.Core.List.{List}
+-- `session::line` meets its contract: refusal 10, or the call on what is lent of the record.
+use mathlib.Core.Path.{sym, ap, ◌∙◌}
 use Rattle.meaning.specs.Calls.{Call}
 use Rattle.cuts.specs.Steps.{line_of}
-use Rattle.session_record.specs.declared.Session.{Session}
-use Rattle.session_record.specs.Record.{out_of_range}
-use Rattle.session_record.specs.Lent.{Memory, memory, memory_of, Ready, Advanced}
+use Rattle.session_record.specs.Step.{stepping_in}
 use Rattle.session_record.proofs.Range.{ranged}
 use Rattle.session_record.proofs.Steps.{named_refused}
-use Rattle.session_record.proofs.Ready.{lent-ready, by_value_taken, by_value_refused}
+use Rattle.session_record.proofs.Lending.{lends, given}
 use Rattle.session.proofs.line.Goals as goal
 
 pub returns-then-unfit : goal.returns-then-unfit
-returns-then-unfit c =
-    let given : Session = c.args.s in
-    let call : Call = Call.line (line_of c.args.output c.args.action c.args.stamp) in
-    c.unmoved.ensures ∙ sym (named_refused given call (sym c.unfit.ensures ∙ c.if-unfit.true))
+returns-then-unfit c = ap stepping_in c.unmoved.ensures ∙ sym (named_refused c.args.s (Call.line (line_of c.args.output c.args.action c.args.stamp)) (sym c.unfit.ensures ∙ c.if-unfit.true))
 
-pub table-table-requires : goal.table-table-requires
-table-table-requires c =
-    let fit : out_of_range c.args.s ≡ false = sym c.unfit.ensures ∙ c.if-unfit.false in
-    let given : Session = c.args.s in
-    (ranged given fit).formed
+pub new-steps-requires : goal.new-steps-requires
+new-steps-requires c = (ranged c.args.s (sym c.unfit.ensures ∙ c.if-unfit.false)).formed
 
-pub line-told-requires : goal.line-told-requires
-line-told-requires c =
-    let fit : out_of_range c.args.s ≡ false = sym c.unfit.ensures ∙ c.if-unfit.false in
-    let given : Session = c.args.s in
-    let ready : Ready (memory given.property c.rows_of-rows.result given.shared.status) =
-    lent-ready given fit c.rows_of-rows.result c.rows_of-rows.ensures.0 c.rows_of-rows.ensures.2 in
-    (ready, c.table-table.ensures)
-
-pub returns-then-answer-ne0 : goal.returns-then-answer-ne0
-returns-then-answer-ne0 c =
-    let fit : out_of_range c.args.s ≡ false = sym c.unfit.ensures ∙ c.if-unfit.false in
-    let given : Session = c.args.s in
-    let call : Call = Call.line (line_of c.args.output c.args.action c.args.stamp) in
-    let led : Memory = memory given.property c.line-told.new.rows c.line-told.result.status in
-    let advanced : Advanced (memory_of given) call c.line-told.result.answer led = let s = given in
-    subst (λ (x : List (List ℕ)). Advanced (memory s.property x s.shared.status) call c.line-told.result.answer led) c.rows_of-rows.ensures.0 c.line-told.ensures in
-    c.unmoved-then-answer-ne0.ensures ∙ by_value_refused given fit call c.line-told.result.answer led advanced c.if-answer-ne0.true
-
-pub made-requires : goal.made-requires
-made-requires c =
-    let given : Session = c.args.s in
-    let call : Call = Call.line (line_of c.args.output c.args.action c.args.stamp) in
-    let led : Memory = memory given.property c.line-told.new.rows c.line-told.result.status in
-    let advanced : Advanced (memory_of given) call c.line-told.result.answer led = let s = given in
-    subst (λ (x : List (List ℕ)). Advanced (memory s.property x s.shared.status) call c.line-told.result.answer led) c.rows_of-rows.ensures.0 c.line-told.ensures in
-    advanced.ready
+pub invariant_of-lent : goal.invariant_of-lent
+invariant_of-lent c =
+    record {
+      ready =
+          lends c.args.s (sym c.unfit.ensures ∙ c.if-unfit.false) c.new-steps.result.property c.new-steps.ensures c.rows_of-rows.result c.rows_of-rows.ensures.0
+          c.rows_of-rows.ensures.2;
+    }
 
 pub returns : goal.returns
 returns c =
-    let fit : out_of_range c.args.s ≡ false = sym c.unfit.ensures ∙ c.if-unfit.false in
-    let given : Session = c.args.s in
-    let call : Call = Call.line (line_of c.args.output c.args.action c.args.stamp) in
-    let led : Memory = memory given.property c.line-told.new.rows c.line-told.result.status in
-    let advanced : Advanced (memory_of given) call c.line-told.result.answer led = let s = given in
-    subst (λ (x : List (List ℕ)). Advanced (memory s.property x s.shared.status) call c.line-told.result.answer led) c.rows_of-rows.ensures.0 c.line-told.ensures in
-    ap (λ (x : Session). record { answer = c.line-told.result.answer; session = x }) c.made.ensures
-    ∙ by_value_taken given fit call c.line-told.result.answer led advanced c.if-answer-ne0.false
+    given c.args.s (sym c.unfit.ensures ∙ c.if-unfit.false) c.new-steps.result.property c.new-steps.ensures c.rows_of-rows.result c.rows_of-rows.ensures.0
+    (Call.line (line_of c.args.output c.args.action c.args.stamp)) c.line-answer.result c.line-answer.ensures c.given_back.result c.given_back.ensures
