@@ -67,9 +67,10 @@ pub fn take(
     ensures { Goes (memory_in lent.old) kept.old (case_as (read_case read)) (doing_in result) (memory_in lent.new) kept.new }
 {
     let did = one_record::take(lent, read)?;
+    let blind = lent.status.clock.blind;
     match did {
         Did::Line(line, _) => {
-            if lent.status.clock.blind {
+            if blind {
                 kept.count = 0;
             } else {
                 kept.keep(line);

@@ -27,15 +27,15 @@ returns-in_err-did c =
     let lent = c.args.lent.now in
     rw (p.1, p.2) (refused_goes (memory_in lent) lent.ready c.args.kept.now _ _ (refusal_number c.in_err-did.field-0.0) c.in_err-did.ensures)
 
-pub returns-then-lent : goal.returns-then-lent
-returns-then-lent c =
+pub returns-then-blind : goal.returns-then-blind
+returns-then-blind c =
     let lent = c.args.lent.now in
-    closed_goes (memory_in lent) lent.ready c.args.kept.now _ _ _ _ (known c.in-Line.is c.in_ok-did.ensures) c.if-lent.true
+    closed_goes (memory_in lent) lent.ready c.args.kept.now _ _ _ _ (known c.in-Line.is c.in_ok-did.ensures) c.if-blind.true
 
-pub returns-else-lent : goal.returns-else-lent
-returns-else-lent c =
+pub returns-else-blind : goal.returns-else-blind
+returns-else-blind c =
     let lent = c.args.lent.now in
-    line_goes (memory_in lent) lent.ready c.args.kept.now _ _ _ _ _ (known c.in-Line.is c.in_ok-did.ensures) c.if-lent.false c.keep.ensures.kept
+    line_goes (memory_in lent) lent.ready c.args.kept.now _ _ _ _ _ (known c.in-Line.is c.in_ok-did.ensures) c.if-blind.false c.keep.ensures.kept
     c.keep.ensures.counted
 
 pub returns-in-Gap : goal.returns-in-Gap
