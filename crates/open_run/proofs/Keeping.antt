@@ -12,13 +12,14 @@ use Rattle.laws.proofs.Places.{first_snoc, first-same}
 use Rattle.meaning.specs.Words.{Line, Run}
 use Rattle.cuts.specs.Steps.{line_of}
 use Rattle.reasons.specs.Reasons.{most_lines}
-use Rattle.open_run.specs.Kept.{Places, in_lines, line_at, Keeps}
+use Rattle.open_run.specs.declared.Kept.{Kept}
+use Rattle.open_run.specs.Kept.{line_at, Keeps}
 
 -- The same places with another number of lines.
-abbrev pub with-count : Places → ℕ → Places
-with-count k n = in_lines k.outputs k.actions k.stamps n
+abbrev pub with-count : Kept → ℕ → Kept
+with-count k n = record { outputs = k.outputs; actions = k.actions; stamps = k.stamps; count = n }
 
-pub keeps-none : {run : Run} (k : Places) → Keeps run k → Keeps [] (with-count k 0)
+pub keeps-none : {run : Run} (k : Kept) → Keeps run k → Keeps [] (with-count k 0)
 unfolding first
 keeps-none k h =
     record {
@@ -29,7 +30,7 @@ keeps-none k h =
       kept = λ few. refl;
     }
 
-pub keeps_past : (run : Run) (k : Places) (l : Line) → most_lines ≤ k.count → Keeps run k → Keeps (run ++ l ∷ []) (with-count k (k.count + 1))
+pub keeps_past : (run : Run) (k : Kept) (l : Line) → most_lines ≤ k.count → Keeps run k → Keeps (run ++ l ∷ []) (with-count k (k.count + 1))
 keeps_past run k l past h =
     record {
       outputs_long = h.outputs_long;
@@ -39,10 +40,15 @@ keeps_past run k l past h =
       kept = λ few. let f : ⊥ = omega arith in absurd f;
     }
 
-module _ (run : Run) (k : Places) (output : Bool) (action stamp : ℕ) (room : k.count < most_lines) (h : Keeps run k) where
-  abbrev put : Places
+module _ (run : Run) (k : Kept) (output : Bool) (action stamp : ℕ) (room : k.count < most_lines) (h : Keeps run k) where
+  abbrev put : Kept
   put =
-      in_lines (set k.outputs k.count output) (set k.actions k.count action) (set k.stamps k.count stamp) (k.count + 1)
+      record {
+        outputs = set k.outputs k.count output;
+        actions = set k.actions k.count action;
+        stamps = set k.stamps k.count stamp;
+        count = k.count + 1;
+      }
 
   here : line_at put k.count ≡ line_of output action stamp
   here =
@@ -74,11 +80,12 @@ module _ (run : Run) (k : Places) (output : Bool) (action stamp : ℕ) (room : k
       }
 
 -- What `why::explain` is given: the first so many of each array.
-abbrev pub cut : Places → Places
-cut k = in_lines (take k.count k.outputs) (take k.count k.actions) (take k.count k.stamps) k.count
+abbrev pub cut : Kept → Kept
+cut k =
+    record { outputs = take k.count k.outputs; actions = take k.count k.actions; stamps = take k.count k.stamps; count = k.count }
 
 -- They are the run, line for line.
-pub handed : {run : Run} (k : Places) → Keeps run k → k.count ≤ most_lines → first (line_at (cut k)) (length (cut k).stamps) ≡ run
+pub handed : {run : Run} (k : Kept) → Keeps run k → k.count ≤ most_lines → first (line_at (cut k)) (length (cut k).stamps) ≡ run
 handed k h few =
     ap (first (line_at (cut k))) (length-take-le k.count k.stamps (omega (arith, few, h.stamps_long)))
     ∙ first-same (line_at (cut k)) (line_at k) k.count
@@ -89,6 +96,6 @@ handed k h few =
     ∙ h.kept few
 
 -- Nothing is kept of a log that begins.
-pub keeps-fresh : Keeps [] (in_lines (replicate most_lines false) (replicate most_lines 0) (replicate most_lines 0) 0)
+pub keeps-fresh : Keeps [] (record { outputs = replicate most_lines false; actions = replicate most_lines 0; stamps = replicate most_lines 0; count = 0 })
 unfolding first
 keeps-fresh = record { outputs_long = refl; actions_long = refl; stamps_long = refl; counted = refl; kept = λ few. refl }

@@ -1,4 +1,4 @@
--- How a run is kept, that it is the one that is open, and what was read so far.
+-- How a run is kept, what was read so far, and that what is kept is the run that is open.
 pub mod Keeping
-pub mod Standing
 pub mod Reading
+pub mod Standing

@@ -12,39 +12,45 @@ use Rattle.trace_form.proofs.ReadAs.{short_read}
 use Rattle.trace_form.proofs.Reader.{by_size, record_reads}
 use Rattle.session_record.specs.declared.Session.{Session}
 use Rattle.session_record.specs.Record.{latest_of}
-use Rattle.session_record.specs.Step.{stepped_of, stepped_through}
-use Rattle.walk.specs.declared.Did.TheVariants.{Took, Ended}
-use Rattle.walk.specs.Walk.{one_call, one_read}
-use Rattle.open_run.specs.Kept.{did_as, ReadAsCalls}
+use Rattle.session_record.specs.Step.{Answer, stepped_of, stepped_through}
+use Rattle.one_record.specs.Doing.{Doing, by_answer, doing_of}
+use Rattle.open_run.specs.Kept.{ReadAsCalls}
 
 -- ---- what a record did tells what it stands for
 
--- What was taken is a call, which the session takes;
-pub record TakenCall (s : Session) (x : ReadAs) : Type 0 where
-  pub call : Call
-  pub is : x ≡ ReadAs.call call
-  pub taken : (stepped_of s call).answer.refusal ≡ 0
+-- What was taken is the call, which the session takes;
+pub record TakenCall (s : Session) (x : ReadAs) (c : Call) : Type 0 where
+  pub is : x ≡ ReadAs.call c
+  pub taken : (stepped_of s c).answer.refusal ≡ 0
 
-pub took-call : (s : Session) (x : ReadAs) → Took ≡ did_as (one_read s x) → TakenCall s x
-unfolding one_read one_call
-took-call s (ReadAs.call c) e = go (stepped_of s c).answer.refusal refl e
+pub took-call : (s : Session) (x : ReadAs) (c : Call) (a : Answer) → Doing.took c a ≡ doing_of s x → TakenCall s x c
+unfolding by_answer
+took-call s (ReadAs.call d) c a e = go (stepped_of s d).answer.refusal refl e
   where
-    go : (n : ℕ) → (stepped_of s c).answer.refusal ≡ n → Took ≡ did_as (one_call s c n) → TakenCall s (ReadAs.call c)
-    go zero t e = record { call = c; is = refl; taken = t }
+    go : (n : ℕ) → (stepped_of s d).answer.refusal ≡ n → Doing.took c a ≡ by_answer d n (stepped_of s d).answer → TakenCall s (ReadAs.call d) c
+    go zero t e = subst (λ (b : Call). TakenCall s (ReadAs.call d) b) (cc e) (record { is = refl; taken = t })
     go (suc n) t e = let z : ◌≡◌ {A = ℕ} 0 1 = cc e in absurd (omega arith)
-took-call s ReadAs.end e = let z : ◌≡◌ {A = ℕ} 0 1 = cc e in absurd (omega arith)
-took-call s (ReadAs.refused n) e = let z : ◌≡◌ {A = ℕ} 0 1 = cc e in absurd (omega arith)
+took-call s ReadAs.end c a e = let z : ◌≡◌ {A = ℕ} 0 1 = cc e in absurd (omega arith)
+took-call s (ReadAs.refused n) c a e = let z : ◌≡◌ {A = ℕ} 0 1 = cc e in absurd (omega arith)
 
--- what ended is the end.
-pub ended-end : (s : Session) (x : ReadAs) → Ended ≡ did_as (one_read s x) → x ≡ ReadAs.end
-unfolding one_read one_call
+-- what ended is the end;
+pub ended-end : (s : Session) (x : ReadAs) → Doing.ended ≡ doing_of s x → x ≡ ReadAs.end
+unfolding by_answer
 ended-end s (ReadAs.call c) e = go (stepped_of s c).answer.refusal e
   where
-    go : (n : ℕ) → Ended ≡ did_as (one_call s c n) → ReadAs.call c ≡ ReadAs.end
+    go : (n : ℕ) → Doing.ended ≡ by_answer c n (stepped_of s c).answer → ReadAs.call c ≡ ReadAs.end
     go zero e = let z : ◌≡◌ {A = ℕ} 0 1 = cc e in absurd (omega arith)
     go (suc n) e = let z : ◌≡◌ {A = ℕ} 0 1 = cc e in absurd (omega arith)
 ended-end s ReadAs.end e = refl
 ended-end s (ReadAs.refused n) e = let z : ◌≡◌ {A = ℕ} 0 1 = cc e in absurd (omega arith)
+
+-- what was refused is no call that the session takes.
+pub refused-call : (s : Session) (c : Call) (n : ℕ) → Doing.refused n ≡ doing_of s (ReadAs.call c) → (stepped_of s c).answer.refusal ≡ 0 → ⊥
+unfolding by_answer
+refused-call s c n e none =
+    let f : Doing.refused n ≡ Doing.took c (stepped_of s c).answer = e ∙ ap (λ (i : ℕ). by_answer c i (stepped_of s c).answer) none in
+    let z : ◌≡◌ {A = ℕ} 0 1 = cc f in
+    omega arith
 
 -- ---- the bytes
 

@@ -1,5 +1,5 @@
 -- The run that is kept is the one that is open: what a record does to both.
-use Prim.Native.Nat.{ℕ, zero, suc, ◌+◌}
+use Prim.Native.Nat.{ℕ, zero, suc, ◌+◌, ◌≤◌}
 use mathlib.Core.Path.{◌≡◌, refl, sym, ap, subst, ◌∙◌}
 use mathlib.Core.Bool.{Bool, true, false, cond}
 use mathlib.Core.List.{List, [], ◌∷◌, ◌++◌, append-nil}
@@ -7,7 +7,7 @@ use native.Mathlib.Omega.{arith}
 use Rattle.meaning.specs.Words.{Line, Run}
 use Rattle.meaning.specs.Node.{Breaks}
 use Rattle.meaning.specs.Numbers.{property_refusal}
-use Rattle.meaning.specs.Calls.{Mark, Call, Watch, fresh, with_line, refusal, unless_refused, taken, next}
+use Rattle.meaning.specs.Calls.{Mark, Call, Watch, fresh, with_line, refusal, mark_at, taken, next}
 use Rattle.meaning.specs.Matcher.{Lengths}
 use Rattle.meaning.specs.Step.{Cuts}
 use Rattle.meaning.proofs.Sets.{Reading}
@@ -18,29 +18,22 @@ use Rattle.meaning.proofs.Histories.{watched-last}
 use Rattle.meaning.proofs.Calls.{Agrees, open_run, blind, grown_agrees, refusal_agrees}
 use Rattle.property.specs.Meant.{meant}
 use Rattle.property.specs.declared.Property.{Property}
-use Rattle.record_form.specs.declared.RecordRead.{RecordRead}
-use Rattle.record_form.specs.declared.RecordRead.TheVariants.{Input, Output, Gap, End, Refused}
-use Rattle.trace_form.specs.ReadAs.{ReadAs, case_as}
+use Rattle.trace_form.specs.ReadAs.{ReadAs}
 use Rattle.cuts.specs.Steps.{line_of, refusal_by}
 use Rattle.session_record.specs.declared.Session.{Session}
-use Rattle.session_record.specs.Step.{Answer}
-use Rattle.session_record.specs.Step.{Stepping}
 use Rattle.session_record.specs.Record.{blind_of, cuts_of}
-use Rattle.session_record.specs.Step.{fresh_of, stepped_of, stepped_through}
+use Rattle.session_record.specs.Step.{Answer, fresh_of, stepped_of, stepped_through}
 use Rattle.session_record.specs.Lent.{Memory, record_in, Ready}
 use Rattle.session_record.proofs.Ready.{ready-fits}
 use Rattle.session_record.proofs.Steps.{answer-refusal, refusal-fits}
 use Rattle.session_record.proofs.Grown.{grown-stands}
 use Rattle.session_record.proofs.Running.{running_record}
 use Rattle.one_record.specs.Takes.{Takes}
-use Rattle.one_record.proofs.Takes.{end_same, refused-same, end-taken, refused_stops}
-use Rattle.walk.specs.declared.Did.{Did}
-use Rattle.walk.specs.declared.Did.TheVariants.{Took, Ended, Not}
-use Rattle.walk.specs.Walk.{one_call, one_read}
-use Rattle.open_run.specs.declared.Outcome.{Outcome}
-use Rattle.open_run.specs.declared.Outcome.TheVariants.{Line as NextLine, Other}
-use Rattle.open_run.specs.Kept.{Places, Keeps, seen, Stands, line_outcome, outcome_of, calls_as, did_as, Goes}
+use Rattle.one_record.specs.Doing.{Doing, doing_of}
+use Rattle.open_run.specs.declared.Kept.{Kept}
+use Rattle.open_run.specs.Kept.{Keeps, seen, Stands, calls_as, Goes}
 use Rattle.open_run.proofs.Keeping.{with-count, keeps-none}
+use Rattle.open_run.proofs.Reading.{TakenCall, took-call, ended-end, refused-call}
 
 -- ---- one call more
 
@@ -84,41 +77,27 @@ module _ (p : Property) (good : property_refusal (meant p) ≡ 0) where
 
 -- ---- a record that is a call
 
-module _ (m : Memory) (ready : Ready m) (c : Call) (a : Answer) (after : Memory) (led : Takes m (ReadAs.call c) a after) (k : Places) where
+module _ (m : Memory) (ready : Ready m) (c : Call) (after : Memory) (led : record_in after ≡ (stepped_of (record_in m) c).session) (k : Kept) where
   abbrev p : Property
   p = m.property
 
   abbrev s : Session
   s = record_in m
 
+  abbrev number : ℕ
+  number = (stepped_of s c).answer.refusal
+
   good : property_refusal (meant p) ≡ 0
   good = ready.ranged.formed
 
-  number : (stepped_of s c).answer.refusal ≡ a.refusal
-  number = ap (λ (r : Stepping). r.answer.refusal) led.taken
-
-  did_refused : (a.refusal ≡ 0 → ⊥) → Not a.refusal ≡ did_as (one_read s (ReadAs.call c))
-  did_refused some = go a.refusal some number
-    where
-      go : (n : ℕ) → (n ≡ 0 → ⊥) → (stepped_of s c).answer.refusal ≡ n → Not n ≡ did_as (one_read s (ReadAs.call c))
-      go zero h e = absurd (h refl)
-      go (suc n) h e = unfold one_read in (sym (ap (λ (m : ℕ). did_as (one_call s c m)) e ∙ unfold one_call in refl))
-
-  did_taken : a.refusal ≡ 0 → Took ≡ did_as (one_read s (ReadAs.call c))
-  did_taken none = unfold one_read in (sym (ap (λ (m : ℕ). did_as (one_call s c m)) (number ∙ none) ∙ unfold one_call in refl))
-
   module _ (calls : List Call) (h : Stands p calls s k) where
     session-next : record_in after ≡ stepped_through (fresh_of p).session (calls ++ c ∷ [])
-    session-next =
-        sym (ap (λ (r : Stepping). r.session) led.taken)
-        ∙ ap (λ (x : Session). (stepped_of x c).session) h.session
-        ∙ sym (through_last (fresh_of p).session calls c)
+    session-next = led ∙ ap (λ (x : Session). (stepped_of x c).session) h.session ∙ sym (through_last (fresh_of p).session calls c)
 
     -- the refusal is that of the rules
-    refusal-same : a.refusal ≡ refusal (meant p) (seen p calls) c
+    refusal-same : number ≡ refusal (meant p) (seen p calls) c
     refusal-same =
-        sym number
-        ∙ answer-refusal s c
+        answer-refusal s c
         ∙ refusal-fits s c (ready-fits m ready)
         ∙ ap (λ (x : Session). refusal_by p (cuts_of x) c) h.session
         ∙ refusal_agrees (R p good) (agrees p good calls) c
@@ -126,144 +105,108 @@ module _ (m : Memory) (ready : Ready m) (c : Call) (a : Answer) (after : Memory)
     seen_next : seen p (calls ++ c ∷ []) ≡ next (meant p) (seen p calls) c
     seen_next = watched-last (meant p) fresh calls c
 
-    seen-kept : (a.refusal ≡ 0 → ⊥) → seen p (calls ++ c ∷ []) ≡ seen p calls
+    seen-kept : (number ≡ 0 → ⊥) → seen p (calls ++ c ∷ []) ≡ seen p calls
     seen-kept some = seen_next ∙ unless_kept (refusal (meant p) (seen p calls) c) _ _ (λ z. some (refusal-same ∙ z))
 
-    seen-taken : a.refusal ≡ 0 → seen p (calls ++ c ∷ []) ≡ taken (meant p) (seen p calls) c
+    seen-taken : number ≡ 0 → seen p (calls ++ c ∷ []) ≡ taken (meant p) (seen p calls) c
     seen-taken none = seen_next ∙ unless_taken (refusal (meant p) (seen p calls) c) _ _ (sym refusal-same ∙ none)
 
     blind-next : after.status.clock.blind ≡ (seen p (calls ++ c ∷ [])).clock.is_blind
     blind-next = ap blind_of session-next ∙ blind-same p good (agrees p good (calls ++ c ∷ []))
 
-  -- refused, nothing changes
-  call-refused : (a.refusal ≡ 0 → ⊥) → Goes m k (ReadAs.call c) (Not a.refusal) after k
-  call-refused some =
-      record {
-        did_is = did_refused some;
-        stands =
-            λ calls h.
-            record { session = session-next calls h; keeps = subst (λ (x : Watch). Keeps x.run k) (sym (seen-kept calls h some)) h.keeps };
-        ready = led.ready;
-        few = omega arith;
-      }
+    -- what stands behind it, by the run that is kept then
+    standing : (k' : Kept) → Keeps (seen p (calls ++ c ∷ [])).run k' → Stands p (calls ++ c ∷ []) (record_in after) k'
+    standing k' keeps = record { session = session-next; keeps = keeps }
 
-  -- taken, with no run open after it
-  call-closed : a.refusal ≡ 0 → after.status.clock.blind ≡ true → Goes m k (ReadAs.call c) Took after (with-count k 0)
-  call-closed none closed =
-      record {
-        did_is = did_taken none;
-        stands =
-            λ calls h.
-            record {
-              session = session-next calls h;
-              keeps =
-                  subst (λ (r : Run). Keeps r (with-count k 0))
-                  (sym (none_open p good (agrees p good (calls ++ c ∷ [])) (sym (blind-next calls h) ∙ closed)))
-                  (keeps-none k h.keeps);
-            };
-        ready = led.ready;
-        few = omega arith;
-      }
+    -- refused, nothing changes
+    stands-refused : (number ≡ 0 → ⊥) → Stands p (calls ++ c ∷ []) (record_in after) k
+    stands-refused some = standing k (subst (λ (x : Watch). Keeps x.run k) (sym (seen-kept some)) h.keeps)
+
+    -- with no run open after it
+    stands-closed : after.status.clock.blind ≡ true → Stands p (calls ++ c ∷ []) (record_in after) (with-count k 0)
+    stands-closed closed =
+        standing (with-count k 0)
+        (subst (λ (r : Run). Keeps r (with-count k 0)) (sym (none_open p good (agrees p good (calls ++ c ∷ [])) (sym blind-next ∙ closed)))
+        (keeps-none k h.keeps))
 
 -- a gap mark that is taken
-mark-taken : (m : Memory) (ready : Ready m) (g : Mark) (a : Answer) (after : Memory) (led : Takes m (ReadAs.call (Call.mark g)) a after) (k : Places)
-    → a.refusal ≡ 0 → Goes m k (ReadAs.call (Call.mark g)) Took after (with-count k 0)
-mark-taken m ready g a after led k none =
-    record {
-      did_is = did_taken m ready (Call.mark g) a after led k none;
-      stands =
-          λ calls h.
-          record {
-            session = session-next m ready (Call.mark g) a after led k calls h;
-            keeps =
-                subst (λ (x : Watch). Keeps x.run (with-count k 0)) (sym (seen-taken m ready (Call.mark g) a after led k calls h none))
-                (keeps-none k h.keeps);
-          };
-      ready = led.ready;
-      few = omega arith;
-    }
+stands-marked : (m : Memory) (ready : Ready m) (g : Mark) (after : Memory) (led : record_in after ≡ (stepped_of (record_in m) (Call.mark g)).session) (k : Kept)
+    (calls : List Call) → Stands m.property calls (record_in m) k → (stepped_of (record_in m) (Call.mark g)).answer.refusal ≡ 0
+    → Stands m.property (calls ++ Call.mark g ∷ []) (record_in after) (with-count k 0)
+stands-marked m ready g after led k calls h none =
+    standing m ready (Call.mark g) after led k calls h (with-count k 0)
+    (subst (λ (x : Watch). Keeps x.run (with-count k 0)) (sym (seen-taken m ready (Call.mark g) after led k calls h none)) (keeps-none k h.keeps))
 
 -- a line that is taken, with a run open after it
-module _ (m : Memory) (ready : Ready m) (l : Line) (a : Answer) (after : Memory) (led : Takes m (ReadAs.call (Call.line l)) a after) (k k' : Places) where
-  more_run : (calls : List Call) (h : Stands m.property calls (record_in m) k) → a.refusal ≡ 0 → after.status.clock.blind ≡ false
-      → (seen m.property (calls ++ Call.line l ∷ [])).run ≡ (seen m.property calls).run ++ l ∷ []
-  more_run calls h none opened =
-      let q = m.property in
-      let e : seen q (calls ++ Call.line l ∷ []) ≡ with_line (meant q) (seen q calls) l = seen-taken m ready (Call.line l) a after led k calls h none in
-      ap (λ (x : Watch). x.run) e
-      ∙ last_line q ready.ranged.formed (agrees q ready.ranged.formed calls) l
-      (ap (λ (x : Watch). x.clock.is_blind) (sym e) ∙ sym (blind-next m ready (Call.line l) a after led k calls h) ∙ opened)
+stands-longer : (m : Memory) (ready : Ready m) (l : Line) (after : Memory) (led : record_in after ≡ (stepped_of (record_in m) (Call.line l)).session) (k : Kept)
+    (calls : List Call) → Stands m.property calls (record_in m) k → (stepped_of (record_in m) (Call.line l)).answer.refusal ≡ 0
+    → after.status.clock.blind ≡ false → (k' : Kept) → ((run : Run) → Keeps run k → Keeps (run ++ l ∷ []) k')
+    → Stands m.property (calls ++ Call.line l ∷ []) (record_in after) k'
+stands-longer m ready l after led k calls h none opened k' more =
+    let q = m.property in
+    let good : property_refusal (meant q) ≡ 0 = ready.ranged.formed in
+    let e : seen q (calls ++ Call.line l ∷ []) ≡ with_line (meant q) (seen q calls) l = seen-taken m ready (Call.line l) after led k calls h none in
+    let longer : (seen q (calls ++ Call.line l ∷ [])).run ≡ (seen q calls).run ++ l ∷ [] =
+    ap (λ (x : Watch). x.run) e
+    ∙ last_line q good (agrees q good calls) l
+    (ap (λ (x : Watch). x.clock.is_blind) (sym e) ∙ sym (blind-next m ready (Call.line l) after led k calls h) ∙ opened) in
+    standing m ready (Call.line l) after led k calls h k' (subst (λ (r : Run). Keeps r k') (sym longer) (more _ h.keeps))
 
-  line_taken : a.refusal ≡ 0 → after.status.clock.blind ≡ false → ((run : Run) → Keeps run k → Keeps (run ++ l ∷ []) k') → k'.count ≡ k.count + 1
-      → Goes m k (ReadAs.call (Call.line l)) Took after k'
-  line_taken none opened more counted =
-      record {
-        did_is = did_taken m ready (Call.line l) a after led k none;
-        stands =
-            λ calls h.
-            record {
-              session = session-next m ready (Call.line l) a after led k calls h;
-              keeps = subst (λ (r : Run). Keeps r k') (sym (more_run calls h none opened)) (more _ h.keeps);
-            };
-        ready = led.ready;
-        few = omega arith;
-      }
+-- ---- a record, by what it did
 
--- ---- what was read
-
--- An outcome leads here, once its line is kept.
-abbrev pub Leads : Memory → Places → ReadAs → Memory → Outcome → Type 0
-Leads m k x after (NextLine output action stamp) =
-    (k' : Places) → ((run : Run) → Keeps run k → Keeps (run ++ line_of output action stamp ∷ []) k') → k'.count ≡ k.count + 1 → Goes m k x Took after k'
-Leads m k x after (Other did count) = Goes m k x did after (with-count k count)
-
-module _ (m : Memory) (ready : Ready m) (a : Answer) (after : Memory) (k : Places) where
-  -- a stop at a refusal
-  abbrev stop : ℕ → Outcome
-  stop n = Other (Not n) k.count
-
-  -- a call, by what it comes to if it is taken
-  called : (c : Call) → Takes m (ReadAs.call c) a after → (o : Outcome) → (a.refusal ≡ 0 → Leads m k (ReadAs.call c) after o)
-      → Leads m k (ReadAs.call c) after (unless_refused a.refusal o (stop a.refusal))
-  called c led o taken = go a.refusal refl
-    where
-      go : (n : ℕ) → a.refusal ≡ n → Leads m k (ReadAs.call c) after (unless_refused n o (stop n))
-      go zero e = taken e
-      go (suc n) e = subst (λ (i : ℕ). Goes m k (ReadAs.call c) (Not i) after k) e (call-refused m ready c a after led k (λ z. omega arith))
-
-  line_leads : (output : Bool) (action stamp : ℕ) → Takes m (ReadAs.call (Call.line (line_of output action stamp))) a after → a.refusal ≡ 0
-      → Leads m k (ReadAs.call (Call.line (line_of output action stamp))) after (line_outcome after.status.clock.blind output action stamp)
-  line_leads output action stamp led none = go after.status.clock.blind refl
-    where
-      l : Line
-      l = line_of output action stamp
-
-      go : (b : Bool) → after.status.clock.blind ≡ b → Leads m k (ReadAs.call (Call.line l)) after (line_outcome b output action stamp)
-      go true e = call-closed m ready (Call.line l) a after led k none e
-      go false e = λ k'. line_taken m ready l a after led k k' none e
-
+module _ (m : Memory) (ready : Ready m) (k : Kept) (after : Memory) where
   -- what is no call leaves the session as it was, and the run
-  left : (x : ReadAs) (did : Did) → record_in after ≡ record_in m → Ready after → calls_as x ≡ []
-      → did ≡ did_as (one_read (record_in m) x) → Goes m k x did after k
-  left x did same next-ready none is =
+  unmoved : (x : ReadAs) (d : Doing) → Takes m x d after → record_in after ≡ record_in m → calls_as x ≡ [] → Goes m k x d after k
+  unmoved x d led same none =
       record {
-        did_is = is;
+        did_is = led.did;
         stands =
             λ calls h.
             subst (λ (cs : List Call). Stands m.property cs (record_in after) k) (sym (ap (λ (l : List Call). calls ++ l) none ∙ append-nil calls))
             (subst (λ (y : Session). Stands m.property calls y k) (sym same) h);
-        ready = next-ready;
+        ready = led.ready;
         few = omega arith;
       }
 
-  -- what was read leads to what it comes to
-  pub read_leads : (read : RecordRead) → Takes m (case_as read) a after
-      → Leads m k (case_as read) after (outcome_of a.refusal after.status.clock.blind k.count read)
-  unfolding one_read
-  read_leads (Input action stamp) led = called _ led _ (line_leads false action stamp led)
-  read_leads (Output action stamp) led = called _ led _ (line_leads true action stamp led)
-  read_leads (Gap lost stamp) led = called _ led _ (mark-taken m ready _ a after led k)
-  read_leads (End stamp) led =
-      subst (Leads m k ReadAs.end after) (sym (end-taken stop (Other Ended k.count) led)) (left ReadAs.end Ended (end_same led) led.ready refl refl)
-  read_leads (Refused n) led =
-      subst (Leads m k (ReadAs.refused n) after) (sym (refused_stops stop n led)) (left (ReadAs.refused n) (Not n) (refused-same led) led.ready refl refl)
+  pub refused_goes : (x : ReadAs) (n : ℕ) → Takes m x (Doing.refused n) after → Goes m k x (Doing.refused n) after k
+  refused_goes (ReadAs.call c) n led =
+      record {
+        did_is = led.did;
+        stands = λ calls h. stands-refused m ready c after led.session k calls h (refused-call (record_in m) c n led.did);
+        ready = led.ready;
+        few = omega arith;
+      }
+  refused_goes ReadAs.end n led = unmoved ReadAs.end (Doing.refused n) led led.session refl
+  refused_goes (ReadAs.refused i) n led = unmoved (ReadAs.refused i) (Doing.refused n) led led.session refl
+
+  pub ended_goes : (x : ReadAs) → Takes m x Doing.ended after → Goes m k x Doing.ended after k
+  ended_goes x led =
+      subst (λ (y : ReadAs). Takes m y Doing.ended after → Goes m k y Doing.ended after k) (sym (ended-end (record_in m) x led.did))
+      (λ t. unmoved ReadAs.end Doing.ended t t.session refl) led
+
+  -- a call that was taken, by what stands behind it
+  taken_goes : (x : ReadAs) (c : Call) (a : Answer) (k' : Kept) → Takes m x (Doing.took c a) after → k'.count ≤ k.count + 1
+      → (record_in after ≡ (stepped_of (record_in m) c).session → (stepped_of (record_in m) c).answer.refusal ≡ 0 → (calls : List Call)
+      → Stands m.property calls (record_in m) k → Stands m.property (calls ++ c ∷ []) (record_in after) k')
+      → Goes m k x (Doing.took c a) after k'
+  taken_goes x c a k' led few stands =
+      let t : TakenCall (record_in m) x c = took-call (record_in m) x c a led.did in
+      subst (λ (y : ReadAs). Takes m y (Doing.took c a) after → Goes m k y (Doing.took c a) after k') (sym t.is)
+      (λ u. record { did_is = u.did; stands = stands u.session t.taken; ready = u.ready; few = few }) led
+
+  pub marked_goes : (x : ReadAs) (lost stamp : ℕ) (a : Answer) → Takes m x (Doing.took (mark_at lost stamp) a) after
+      → Goes m k x (Doing.took (mark_at lost stamp) a) after (with-count k 0)
+  marked_goes x lost stamp a led =
+      taken_goes x (mark_at lost stamp) a (with-count k 0) led (omega arith)
+      (λ same none calls h. stands-marked m ready (record { lost = lost; stamp = stamp }) after same k calls h none)
+
+  pub closed_goes : (x : ReadAs) (c : Call) (a : Answer) → Takes m x (Doing.took c a) after → after.status.clock.blind ≡ true
+      → Goes m k x (Doing.took c a) after (with-count k 0)
+  closed_goes x c a led closed =
+      taken_goes x c a (with-count k 0) led (omega arith) (λ same none calls h. stands-closed m ready c after same k calls h closed)
+
+  pub line_goes : (x : ReadAs) (l : Line) (a : Answer) (k' : Kept) → Takes m x (Doing.took (Call.line l) a) after → after.status.clock.blind ≡ false
+      → ((run : Run) → Keeps run k → Keeps (run ++ l ∷ []) k') → k'.count ≡ k.count + 1 → Goes m k x (Doing.took (Call.line l) a) after k'
+  line_goes x l a k' led opened more counted =
+      taken_goes x (Call.line l) a k' led (omega (arith, counted))
+      (λ same none calls h. stands-longer m ready l after same k calls h none opened k' more)

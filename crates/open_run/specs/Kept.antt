@@ -1,12 +1,10 @@
 -- Document 02, CR 6: "for the run open at the end record". The run that is kept is the one that the calls so far have left open.
-use Rattle.std.specs.Prelude.{ℕ, ◌+◌, ◌*◌, ◌≤◌, ◌≡◌, Bool, true, false, cond, List, [], ◌∷◌, ◌++◌, length, drop, get_or}
+use Rattle.std.specs.Prelude.{ℕ, ◌+◌, ◌*◌, ◌≤◌, ◌≡◌, false, List, [], ◌∷◌, ◌++◌, length, drop, get_or}
 use Rattle.laws.specs.Places.{first}
 use Rattle.meaning.specs.Words.{Line, Run}
-use Rattle.meaning.specs.Calls.{Call, Watch, fresh, watched, unless_refused}
+use Rattle.meaning.specs.Calls.{Call, Watch, fresh, watched}
 use Rattle.property.specs.Meant.{meant}
 use Rattle.property.specs.declared.Property.{Property}
-use Rattle.record_form.specs.declared.RecordRead.{RecordRead}
-use Rattle.record_form.specs.declared.RecordRead.TheVariants.{Input, Output, Gap, End, Refused}
 use Rattle.record_form.specs.Record.{record_size, record_answer}
 use Rattle.trace_form.specs.ReadAs.{ReadAs, read_as}
 use Rattle.cuts.specs.Steps.{line_of}
@@ -14,28 +12,15 @@ use Rattle.session_record.specs.declared.Session.{Session}
 use Rattle.session_record.specs.Record.{latest_of}
 use Rattle.session_record.specs.Step.{fresh_of, stepped_of, stepped_through}
 use Rattle.session_record.specs.Lent.{Memory, record_in, Ready}
+use Rattle.one_record.specs.Doing.{Doing, doing_of}
 use Rattle.reasons.specs.Reasons.{most_lines}
-use Rattle.walk.specs.declared.Did.{Did}
-use Rattle.walk.specs.declared.Did.TheVariants.{Took, Ended, Not}
-use Rattle.walk.specs.Walk.{One, one_read}
-use Rattle.open_run.specs.declared.Outcome.{Outcome}
-use Rattle.open_run.specs.declared.Outcome.TheVariants.{Line as NextLine, Other}
+use Rattle.open_run.specs.declared.Kept.{Kept}
 
--- What is kept: the places of lines, in three arrays, and the number of lines.
-pub record Places : Type 0 where
-  pub outputs : List Bool
-  pub actions : List ℕ
-  pub stamps : List ℕ
-  pub count : ℕ
-
-abbrev pub in_lines : List Bool → List ℕ → List ℕ → ℕ → Places
-in_lines outputs actions stamps count = record { outputs = outputs; actions = actions; stamps = stamps; count = count }
-
-abbrev pub line_at : Places → ℕ → Line
+abbrev pub line_at : Kept → ℕ → Line
 line_at k i = line_of (get_or k.outputs i false) (get_or k.actions i 0) (get_or k.stamps i 0)
 
 -- A run is kept: all its lines are counted, and where there are no more than 256 they stand in their places, in order.
-pub record Keeps (run : Run) (k : Places) : Type 0 where
+pub record Keeps (run : Run) (k : Kept) : Type 0 where
   pub outputs_long : length k.outputs ≡ most_lines
   pub actions_long : length k.actions ≡ most_lines
   pub stamps_long : length k.stamps ≡ most_lines
@@ -47,25 +32,9 @@ abbrev pub seen : Property → List Call → Watch
 seen p calls = watched (meant p) fresh calls
 
 -- The session is what these calls have made of a fresh one, and the run that they have left open is kept.
-pub record Stands (p : Property) (calls : List Call) (s : Session) (k : Places) : Type 0 where
+pub record Stands (p : Property) (calls : List Call) (s : Session) (k : Kept) : Type 0 where
   pub session : s ≡ stepped_through (fresh_of p).session calls
   pub keeps : Keeps (seen p calls).run k
-
--- A line that is taken: it is to be kept, unless no run is open after it.
-abbrev pub line_outcome : (blind output : Bool) (action stamp : ℕ) → Outcome
-line_outcome blind output action stamp = cond blind (Other Took 0) (NextLine output action stamp)
-
--- What a record comes to that the session has not refused, as it was read: `blind` is after it, `count` before it.
-abbrev pub kind_outcome : (blind : Bool) (count : ℕ) → RecordRead → Outcome
-kind_outcome blind count (Input action stamp) = line_outcome blind false action stamp
-kind_outcome blind count (Output action stamp) = line_outcome blind true action stamp
-kind_outcome blind count (Gap lost stamp) = Other Took 0
-kind_outcome blind count (End stamp) = Other Ended count
-kind_outcome blind count (Refused number) = Other (Not number) count
-
--- By the number that the session has refused it with, if it has.
-abbrev pub outcome_of : (refusal : ℕ) (blind : Bool) (count : ℕ) → RecordRead → Outcome
-outcome_of refusal blind count read = unless_refused refusal (kind_outcome blind count read) (Other (Not refusal) count)
 
 -- The calls of a record: it is one, or none.
 abbrev pub calls_as : ReadAs → List Call
@@ -73,22 +42,16 @@ calls_as (ReadAs.call c) = c ∷ []
 calls_as ReadAs.end = []
 calls_as (ReadAs.refused n) = []
 
--- What a record did, by what it does to the session.
-abbrev pub did_as : One → Did
-did_as One.ended = Ended
-did_as (One.refused n) = Not n
-did_as (One.took c after) = Took
-
 -- A record that stands for x did this and leads here: what stood behind the calls before it stands behind its own too, and the next
 -- record can start.
-pub record Goes (m : Memory) (k : Places) (x : ReadAs) (did : Did) (after : Memory) (k' : Places) : Type 0 where
-  pub did_is : did ≡ did_as (one_read (record_in m) x)
+pub record Goes (m : Memory) (k : Kept) (x : ReadAs) (did : Doing) (after : Memory) (k' : Kept) : Type 0 where
+  pub did_is : did ≡ doing_of (record_in m) x
   pub stands : (calls : List Call) → Stands m.property calls (record_in m) k → Stands m.property (calls ++ calls_as x) (record_in after) k'
   pub ready : Ready after
   pub few : k'.count ≤ k.count + 1
 
 -- The next record is read from the bytes that came, no more than a record has; the stamp before it is the session's latest.
-pub record Next (m : Memory) (k : Places) (did : Did) (after : Memory) (k' : Places) : Type 0 where
+pub record Next (m : Memory) (k : Kept) (did : Doing) (after : Memory) (k' : Kept) : Type 0 where
   pub bytes : List ℕ
   pub few : length bytes ≤ record_size
   pub goes : Goes m k (read_as (record_answer bytes (latest_of (record_in m)))) did after k'
@@ -118,7 +81,7 @@ pub record OpenAtEnd (m : Memory) (taken : ℕ) (run : Run) : Type 0 where
   pub is_run : (seen m.property calls).run ≡ run
 
 -- The lines are that run's.
-pub record Open (m : Memory) (taken : ℕ) (k : Places) : Type 0 where
+pub record Open (m : Memory) (taken : ℕ) (k : Kept) : Type 0 where
   pub run : Run
   pub has : OpenAtEnd m taken run
   pub keeps : Keeps run k

@@ -1,120 +1,83 @@
-// The run of a log that is open: its lines, kept in lent arrays beside the rows of the session.
+// The run of a log that is open: its lines, kept in arrays beside the session that is lent.
 #![tactic(auto)]
 
 ghost use Rattle.std.specs.Prelude.{◌+◌, ◌^◌, ◌<◌, ◌≡◌, [], ◌∷◌, ◌++◌};
 ghost use Rattle.meaning.specs.Words.{Run};
+ghost use Rattle.record_form.specs.Record.{read_case};
 ghost use Rattle.trace_form.specs.ReadAs.{case_as};
-ghost use Rattle.table.specs.Table.{IsTable};
 ghost use Rattle.cuts.specs.Steps.{line_of};
-ghost use Rattle.session_record.specs.Lent.{memory, Ready};
-ghost use Rattle.open_run.specs.Kept.{in_lines, Keeps, line_outcome, outcome_of, Goes};
+ghost use Rattle.session_record.specs.Loan.{memory_in};
+ghost use Rattle.one_record.specs.Doing.{doing_in};
+ghost use Rattle.open_run.specs.Kept.{Keeps, Goes};
 
-use held::Status;
 use limits::MOST_LINES;
-use property::Property;
-use record_form::RecordRead;
-use rows::Words;
-use table::Table;
-use walk::Did;
+use one_record::Did;
+use outcomes::Refusal;
+use property::Line;
+use record_form::Record;
+use session_record::Lent;
 
-// What a record did, and what stands beside the rows and the arrays after it.
+// The lines of a run, and their number. Behind the 256th there is no place, and a line is only counted.
 #[derive(Clone, Copy)]
-pub struct Noted {
-    pub did: Did,
-    pub status: Status,
-    // The number of lines of the run that is open, 0 where none is.
+pub struct Kept {
+    pub outputs: [bool; 256],
+    pub actions: [u8; 256],
+    pub stamps: [u64; 256],
+    // 0 where no run is open.
     pub count: usize,
 }
 
-// Keeps a line at its place in the run. Behind the 256th there is none, and the line is only counted.
-fn keep(
-    outputs: &mut [bool; 256],
-    actions: &mut [u8; 256],
-    stamps: &mut [u64; 256],
-    place: usize,
-    output: bool,
-    action: u8,
-    stamp: u64,
-)
-    ensures { (run : Run) → Keeps run (in_lines outputs.old actions.old stamps.old place)
-        → Keeps (run ++ line_of output action stamp ∷ []) (in_lines outputs.new actions.new stamps.new (place + 1)) }
-{
-    if MOST_LINES <= place {
-        return;
+impl Kept {
+    // Nothing is kept of a log that begins.
+    pub fn new() -> Self
+        ensures { Keeps [] result }
+    {
+        Kept {
+            outputs: [false; 256],
+            actions: [0; 256],
+            stamps: [0; 256],
+            count: 0,
+        }
     }
-    outputs[place] = output;
-    actions[place] = action;
-    stamps[place] = stamp;
-}
 
-// What a record comes to.
-#[derive(Clone, Copy)]
-enum Outcome {
-    // A line to be kept: is it an output, its action and its stamp.
-    Line(bool, u8, u64),
-    // None: what the record did, and the number of lines of the run that is open after it.
-    Other(Did, usize),
-}
-
-// A line that is taken. It is the next of the run that is open after it; while blind there was none, and it begins one or is skipped.
-fn line(blind: bool, output: bool, action: u8, stamp: u64) -> Outcome
-    ensures { result ≡ line_outcome blind output action stamp }
-{
-    if blind {
-        return Outcome::Other(Did::Took, 0);
-    }
-    Outcome::Line(output, action, stamp)
-}
-
-// A record as it was read, with the number of the session's refusal or 0; `blind` is after it. A gap mark closes the run.
-fn comes_to(refusal: u64, blind: bool, count: usize, read: RecordRead) -> Outcome
-    ensures { result ≡ outcome_of refusal blind count read }
-{
-    if refusal != 0 {
-        return Outcome::Other(Did::Not(refusal), count);
-    }
-    match read {
-        RecordRead::Input(action, stamp) => line(blind, false, action, stamp),
-        RecordRead::Output(action, stamp) => line(blind, true, action, stamp),
-        RecordRead::Gap(_, _) => Outcome::Other(Did::Took, 0),
-        RecordRead::End(_) => Outcome::Other(Did::Ended, count),
-        RecordRead::Refused(number) => Outcome::Other(Did::Not(number), count),
+    // Keeps a line behind the others.
+    fn keep(&mut self, line: Line)
+        requires { self.old.count + 1 < 2 ^ 64 }
+        ensures kept { (run : Run) → Keeps run self.old → Keeps (run ++ line_of line.output line.action line.stamp ∷ []) self.new }
+        ensures counted { self.new.count ≡ self.old.count + 1 }
+    {
+        let place = self.count;
+        self.count += 1;
+        if place < MOST_LINES {
+            self.outputs[place] = line.output;
+            self.actions[place] = line.action;
+            self.stamps[place] = line.stamp;
+        }
     }
 }
 
-// A record as it was read.
+// A record as it was read. A line that is taken is the next of the run that is open after it; while blind there was none, and the line begins
+// one or is skipped. A gap mark closes the run.
 pub fn take(
-    p: Property,
-    table: &Table,
-    rows: &mut [Words],
-    status: Status,
-    outputs: &mut [bool; 256],
-    actions: &mut [u8; 256],
-    stamps: &mut [u64; 256],
-    count: usize,
-    read: RecordRead,
-) -> Noted
-    requires { Ready (memory p rows.old status) × IsTable p table.now × (count + 1 < 2 ^ 64) }
-    ensures { Goes (memory p rows.old status)
-        (in_lines outputs.old actions.old stamps.old count) (case_as read) result.did
-        (memory p rows.new result.status)
-        (in_lines outputs.new actions.new stamps.new result.count) }
+    lent: &mut Lent<'_>,
+    kept: &mut Kept,
+    read: Result<Record, Refusal>,
+) -> Result<Did, Refusal>
+    requires { kept.old.count + 1 < 2 ^ 64 }
+    ensures { Goes (memory_in lent.old) kept.old (case_as (read_case read)) (doing_in result) (memory_in lent.new) kept.new }
 {
-    let told = one_record::take(p, table, rows, status, read);
-    let next = told.status;
-    match comes_to(told.answer.refusal, next.clock.blind, count, read) {
-        Outcome::Line(output, action, stamp) => {
-            keep(outputs, actions, stamps, count, output, action, stamp);
-            Noted {
-                did: Did::Took,
-                status: next,
-                count: count + 1,
+    let did = one_record::take(lent, read)?;
+    let blind = lent.status.clock.blind;
+    match did {
+        Did::Line(line, _) => {
+            if blind {
+                kept.count = 0;
+            } else {
+                kept.keep(line);
             }
         }
-        Outcome::Other(did, after) => Noted {
-            did,
-            status: next,
-            count: after,
-        },
+        Did::Gap(_, _, _) => kept.count = 0,
+        Did::Ended => {}
     }
+    Ok(did)
 }

@@ -1,33 +1,49 @@
--- `open_run::take` meets its contract: what the session told of the record, and its line kept.
-use mathlib.Core.Path.{◌≡◌, refl, sym, subst, ◌∙◌}
-use Rattle.record_form.specs.declared.RecordRead.{RecordRead}
-use Rattle.trace_form.specs.ReadAs.{case_as}
-use Rattle.session_record.specs.Step.{Answer}
-use Rattle.session_record.specs.Lent.{Memory, memory, Ready}
+-- `open_run::take` meets its contract: what the record did on the session, and its line kept.
+use mathlib.Core.Path.{sym, subst}
+use Rattle.std.specs.Prelude.{◌≡◌, Ok}
+use Rattle.std.proofs.lemmas.Result.{err_from_is_err_and}
+use Rattle.outcomes.specs.Numbers.{refusal_number}
+use Rattle.trace_form.specs.ReadAs.{ReadAs}
+use Rattle.session_record.specs.Lent.{Memory}
+use Rattle.session_record.specs.Loan.{memory_in}
+use Rattle.one_record.specs.declared.Did.{Did}
+use Rattle.one_record.specs.Doing.{doing_in}
 use Rattle.one_record.specs.Takes.{Takes}
-use Rattle.open_run.specs.declared.Outcome.{Outcome}
-use Rattle.open_run.specs.Kept.{Places, in_lines, outcome_of}
-use Rattle.open_run.proofs.Standing.{Leads, read_leads}
+use Rattle.open_run.specs.declared.Kept.{Kept}
+use Rattle.open_run.specs.Kept.{Goes}
+use Rattle.open_run.proofs.Standing.{refused_goes, ended_goes, marked_goes, closed_goes, line_goes}
 use Rattle.open_run.proofs.take.Goals as goal
 
--- what the record comes to, as an arm of the `match` knows it, leads to what stands after it
-came_leads : (start : Memory) → Ready start → (answer : Answer) (after : Memory) (lines : Places) (read : RecordRead) → Takes start (case_as read) answer after
-    → {came o : Outcome} → came ≡ outcome_of answer.refusal after.status.clock.blind lines.count read → came ≡ o → Leads start lines (case_as read) after o
-came_leads start ready answer after lines read took e is =
-    subst (Leads start lines (case_as read) after) (sym e ∙ is) (read_leads start ready answer after lines read took)
+-- an arm of the `match` knows what was done
+known : {m after : Memory} {x : ReadAs} {did d : Did} → did ≡ d → Takes m x (doing_in (Ok did)) after → Takes m x (doing_in (Ok d)) after
+known {m} {after} {x} e h = subst (λ (y : Did). Takes m x (doing_in (Ok y)) after) e h
 
-pub returns-in-Line : goal.returns-in-Line
-returns-in-Line c =
-    let a = c.args in
-    let start : Memory = memory a.p a.rows.now a.status in
-    let lines : Places = in_lines a.outputs.now a.actions.now a.stamps.now a.count in
-    let after : Memory = memory a.p c.take-told.new.rows c.take-told.result.status in
-    came_leads start c.requires.0 c.take-told.result.answer after lines a.read c.take-told.ensures c.comes_to.ensures c.in-Line.is _ c.keep.ensures refl
+same : {m after : Memory} {x : ReadAs} {did d : Did} {k k' : Kept} → did ≡ d → Goes m k x (doing_in (Ok d)) after k' → Goes m k x (doing_in (Ok did)) after k'
+same {m} {after} {x} {k = k} {k' = k'} e h = subst (λ (y : Did). Goes m k x (doing_in (Ok y)) after k') (sym e) h
 
-pub returns-in-Other : goal.returns-in-Other
-returns-in-Other c =
-    let a = c.args in
-    let start : Memory = memory a.p a.rows.now a.status in
-    let lines : Places = in_lines a.outputs.now a.actions.now a.stamps.now a.count in
-    let after : Memory = memory a.p c.take-told.new.rows c.take-told.result.status in
-    came_leads start c.requires.0 c.take-told.result.answer after lines a.read c.take-told.ensures c.comes_to.ensures c.in-Other.is
+pub returns-in_err-did : goal.returns-in_err-did
+returns-in_err-did c =
+    let p = err_from_is_err_and c.from_residual.result c.from_residual.ensures.1 in
+    let lent = c.args.lent.now in
+    rw (p.1, p.2) (refused_goes (memory_in lent) lent.ready c.args.kept.now _ _ (refusal_number c.in_err-did.field-0.0) c.in_err-did.ensures)
+
+pub returns-then-blind : goal.returns-then-blind
+returns-then-blind c =
+    let lent = c.args.lent.now in
+    closed_goes (memory_in lent) lent.ready c.args.kept.now _ _ _ _ (known c.in-Line.is c.in_ok-did.ensures) c.if-blind.true
+
+pub returns-else-blind : goal.returns-else-blind
+returns-else-blind c =
+    let lent = c.args.lent.now in
+    line_goes (memory_in lent) lent.ready c.args.kept.now _ _ _ _ _ (known c.in-Line.is c.in_ok-did.ensures) c.if-blind.false c.keep.ensures.kept
+    c.keep.ensures.counted
+
+pub returns-in-Gap : goal.returns-in-Gap
+returns-in-Gap c =
+    let lent = c.args.lent.now in
+    same c.in-Gap.is (marked_goes (memory_in lent) lent.ready c.args.kept.now _ _ _ _ _ (known c.in-Gap.is c.in_ok-did.ensures))
+
+pub returns-in-Ended : goal.returns-in-Ended
+returns-in-Ended c =
+    let lent = c.args.lent.now in
+    same c.in-Ended.is (ended_goes (memory_in lent) lent.ready c.args.kept.now _ _ (known c.in-Ended.is c.in_ok-did.ensures))

@@ -1,9 +1,0 @@
--- `show_why::tell` is safe: there are no more lines than places, and what is told was found of the run that is open.
-use Rattle.open_run.specs.Kept.{in_lines}
-use Rattle.show_why.proofs.Told.{explained}
-use Rattle.show_why.proofs.tell.Goals as goal
-
-pub found-requires : goal.found-requires
-found-requires g c =
-    let a = c.args in
-    explained (in_lines a.outputs.now a.actions.now a.stamps.now a.count) _ _ c.requires c.if-count-gt-MOST_LINES.false c.explain-r.ensures
