@@ -91,14 +91,7 @@ fn swept_cut(
 
 // An output goes through the cuts of property j. A turn reads and stores at one index alone, so that its place is found once: the open
 // input before the next cut is read a turn ahead.
-pub fn sweep(
-    steps: &Steps,
-    rows: &mut [Words],
-    span: Span,
-    j: usize,
-    action: u64,
-    stamp: u64,
-)
+pub fn sweep(steps: &Steps, rows: &mut [Words], span: Span, j: usize, action: u64, stamp: u64)
     requires { Usable steps.now.property rows.old span j }
     ensures { Swept steps.now.property span j action stamp rows.old rows.new }
 {

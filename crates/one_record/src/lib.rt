@@ -44,11 +44,7 @@ pub fn take(lent: &mut Lent<'_>, read: Result<Record, Refusal>) -> Result<Did, R
             };
             Ok(Did::Line(line, in_place::line(lent, line)?))
         }
-        Record::Gap(lost, stamp) => Ok(Did::Gap(
-            lost,
-            stamp,
-            gap_mark::mark(lent, lost, stamp)?,
-        )),
+        Record::Gap(lost, stamp) => Ok(Did::Gap(lost, stamp, gap_mark::mark(lent, lost, stamp)?)),
         Record::End(_) => Ok(Did::Ended),
     }
 }

@@ -1,14 +1,16 @@
 // The calls on a session, by value: fresh, line, gap mark.
 #![tactic(auto)]
 
-ghost use Rattle.std.specs.Prelude.{◌≡◌, Err};
+ghost use Rattle.std.specs.Prelude.{◌≡◌, Ok, Err, MatchResult};
 ghost use Rattle.meaning.specs.Calls.{Call, mark_at};
 ghost use Rattle.cuts.specs.Steps.{line_of};
 ghost use Rattle.session_record.specs.Step.{fresh_of, stepped_of, stepping_in};
+ghost use Rattle.session_record.specs.Lent.{record_in};
+ghost use Rattle.session_record.specs.Loan.{memory_in};
 
 use outcomes::{Refusal, Verdict};
 use property::{Line, Property};
-use session_record::{Lent, Session, Stepped, Told, blank, made, rows_of, unfit};
+use session_record::{Answer, Lent, Session, Stepped, Told, blank, made, rows_of, unfit};
 use table::Steps;
 
 // "a session given comes back as it was"
@@ -21,16 +23,31 @@ fn unmoved(s: Session, refusal: Refusal) -> Stepped
     }
 }
 
+// What a call gives back that was made on what is lent of a session.
+fn given_back(s: Session, lent: &Lent<'_>, answer: Answer) -> Stepped
+    ensures { MatchResult answer (λ told. result ≡ record { answer = Ok told; session = record_in (memory_in lent.now) })
+        (λ refusal. result ≡ record { answer = Err refusal; session = s }) }
+{
+    match answer {
+        Ok(told) => Stepped {
+            answer: Ok(told),
+            session: made(lent),
+        },
+        Err(refusal) => unmoved(s, refusal),
+    }
+}
+
 // A fresh session.
 pub fn fresh(p: Property) -> Stepped
     ensures { stepping_in result ≡ fresh_of p }
 {
+    let empty = Told {
+        verdict: Verdict::Clear,
+        open_count: 0,
+    };
     match property::refused(p) {
         Ok(()) => Stepped {
-            answer: Ok(Told {
-                verdict: Verdict::Clear,
-                open_count: 0,
-            }),
+            answer: Ok(empty),
             session: blank(p, matcher::start()),
         },
         Err(refusal) => unmoved(blank(property::none(), matcher::none()), refusal),
@@ -56,13 +73,8 @@ pub fn line(s: Session, output: bool, action: u8, stamp: u64) -> Stepped
         action,
         stamp,
     };
-    match in_place::line(&mut lent, line) {
-        Ok(told) => Stepped {
-            answer: Ok(told),
-            session: made(&lent),
-        },
-        Err(refusal) => unmoved(s, refusal),
-    }
+    let answer = in_place::line(&mut lent, line);
+    given_back(s, &lent, answer)
 }
 
 // A gap mark: the number of lost lines, 63 for more or unknown, and its stamp.
@@ -79,11 +91,6 @@ pub fn mark(s: Session, lost: u8, stamp: u64) -> Stepped
         rows: &mut rows,
         status: s.shared.status,
     };
-    match gap_mark::mark(&mut lent, lost, stamp) {
-        Ok(told) => Stepped {
-            answer: Ok(told),
-            session: made(&lent),
-        },
-        Err(refusal) => unmoved(s, refusal),
-    }
+    let answer = gap_mark::mark(&mut lent, lost, stamp);
+    given_back(s, &lent, answer)
 }

@@ -1,5 +1,5 @@
 -- A record that refusal 10 does not name, lent, and what is given back of it.
-use Rattle.std.specs.Prelude.{Result, Ok, Err}
+use Rattle.std.specs.Prelude.{Result, Ok, Err, MatchResult}
 use mathlib.Core.Path.{◌≡◌, refl, sym, ◌∙◌, ap, subst}
 use mathlib.Core.Bool.{false}
 use mathlib.Core.List.{List}
@@ -27,7 +27,7 @@ module _ (s : Session) (fit : out_of_range s ≡ false) (p : Property) (own : p 
   pub lent_is : memory p rows s.shared.status ≡ memory_of s
   lent_is = λ i. memory (own i) (same i) s.shared.status
 
-  module _ (k : Call) {r : Result Told Refusal} {after : Memory} (h : Advanced (memory p rows s.shared.status) k (answer_in r) after) where
+  module _ (k : Call) (r : Result Told Refusal) {after : Memory} (h : Advanced (memory p rows s.shared.status) k (answer_in r) after) where
     led : (x : Result Told Refusal) → r ≡ x → Advanced (memory_of s) k (answer_in x) after
     led x e = subst (λ (m : Memory). Advanced m k (answer_in x) after) lent_is (subst (λ (y : Result Told Refusal). Advanced (memory p rows s.shared.status) k (answer_in y) after) e h)
 
@@ -40,3 +40,15 @@ module _ (s : Session) (fit : out_of_range s ≡ false) (p : Property) (own : p 
     pub refused_back : (refusal : Refusal) → r ≡ Err refusal → (t : Stepped) → t ≡ record { answer = Err refusal; session = s } → stepping_in t ≡ stepped_of s k
     refused_back refusal e t is =
         ap stepping_in is ∙ by_value_refused s fit k (answer_in (Err refusal)) after (led (Err refusal) e) (refusal_not_0 refusal)
+
+    -- So for either.
+    pub given : (t : Stepped)
+        → MatchResult r (λ told. t ≡ record { answer = Ok told; session = record_in after }) (λ refusal. t ≡ record { answer = Err refusal; session = s })
+        → stepping_in t ≡ stepped_of s k
+    given t = by_case r refl
+      where
+        by_case : (x : Result Told Refusal) → r ≡ x
+            → MatchResult x (λ told. t ≡ record { answer = Ok told; session = record_in after }) (λ refusal. t ≡ record { answer = Err refusal; session = s })
+            → stepping_in t ≡ stepped_of s k
+        by_case (Ok told) e h = ap stepping_in h ∙ taken_back told e (record_in after) refl
+        by_case (Err refusal) e h = refused_back refusal e t h

@@ -10,12 +10,11 @@ ghost use Rattle.session_record.specs.Record.{rows_of, out_of_range};
 ghost use Rattle.session_record.specs.Lent.{record_in, of_arrays, packed_pair, packed_of, blank};
 ghost use Rattle.session_record.specs.Loan.{memory_in};
 
-pub use loan::Lent;
-
 use clock::Clock;
 use cuts::Row;
 use held::{Shared, Status};
 use limits::{LAST_STAMP, MOST_OPEN};
+pub use loan::Lent;
 use matcher::Cut;
 use outcomes::{Refusal, Verdict};
 use property::Property;

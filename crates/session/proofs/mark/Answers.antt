@@ -4,7 +4,7 @@ use Rattle.meaning.specs.Calls.{mark_at}
 use Rattle.session_record.specs.Step.{stepping_in}
 use Rattle.session_record.proofs.Range.{ranged}
 use Rattle.session_record.proofs.Steps.{named_refused}
-use Rattle.session_record.proofs.Lending.{lends, taken_back, refused_back}
+use Rattle.session_record.proofs.Lending.{lends, given}
 use Rattle.session.proofs.mark.Goals as goal
 
 pub returns-then-unfit : goal.returns-then-unfit
@@ -21,12 +21,7 @@ invariant_of-lent c =
           c.rows_of-rows.ensures.2;
     }
 
-pub returns-in-Ok : goal.returns-in-Ok
-returns-in-Ok c =
-    taken_back c.args.s (sym c.unfit.ensures ∙ c.if-unfit.false) c.new-steps.result.property c.new-steps.ensures c.rows_of-rows.result c.rows_of-rows.ensures.0
-    (mark_at c.args.lost c.args.stamp) c.mark.ensures c.in-Ok.told c.in-Ok.is c.made.result c.made.ensures
-
-pub returns-in-Err : goal.returns-in-Err
-returns-in-Err c =
-    refused_back c.args.s (sym c.unfit.ensures ∙ c.if-unfit.false) c.new-steps.result.property c.new-steps.ensures c.rows_of-rows.result c.rows_of-rows.ensures.0
-    (mark_at c.args.lost c.args.stamp) c.mark.ensures c.in-Err.refusal c.in-Err.is c.unmoved-in-Err.result c.unmoved-in-Err.ensures
+pub returns : goal.returns
+returns c =
+    given c.args.s (sym c.unfit.ensures ∙ c.if-unfit.false) c.new-steps.result.property c.new-steps.ensures c.rows_of-rows.result c.rows_of-rows.ensures.0
+    (mark_at c.args.lost c.args.stamp) c.mark-answer.result c.mark-answer.ensures c.given_back.result c.given_back.ensures
