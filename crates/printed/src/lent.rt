@@ -1,5 +1,5 @@
 // A record on lent rows: the printing program lends them from record to record.
-ghost use Rattle.std.specs.Prelude.{◌≡◌, false};
+ghost use Rattle.std.specs.Prelude.{◌≡◌, true, false};
 ghost use Rattle.record_form.specs.Record.{read_case};
 ghost use Rattle.trace_form.specs.ReadAs.{case_as};
 ghost use Rattle.session_record.specs.Loan.{memory_in};
