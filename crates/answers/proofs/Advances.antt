@@ -3,11 +3,12 @@ use Prim.Native.Nat.{ℕ, ◌+◌, ◌-◌, ◌≤◌, ◌<◌}
 use mathlib.Core.Path.{◌≡◌, refl, sym, ◌∙◌, ap, subst}
 use mathlib.Core.Bool.{Bool, true, false, cond}
 use mathlib.Core.List.{List, []}
+use Rattle.std.specs.Prelude.{Result, Ok, Err}
 use native.Mathlib.Nat.{add-zero}
 use lib.ListN.{length}
 use lib.Dec.{ltb}
 use Rattle.meaning.specs.Limits.{last_action, most_open}
-use Rattle.meaning.specs.Numbers.{given, first_of}
+use Rattle.meaning.specs.Numbers.{given, first_of, property_refusal}
 use Rattle.meaning.specs.Words.{Line}
 use Rattle.meaning.specs.Node.{Verdict, verdict_number}
 use Rattle.meaning.specs.Calls.{Call, mark_at, ticked, marked, stamp_refusal, beyond}
@@ -18,7 +19,7 @@ use Rattle.property.specs.Meant.{meant}
 use Rattle.property.specs.declared.Property.{Property}
 use Rattle.matcher.specs.Sets.{cut_of}
 use Rattle.matcher.proofs.Words.{set_back, short_fits, start_short}
-use Rattle.rows.specs.Rows.{none}
+use Rattle.rows.specs.Rows.{none, Room}
 use Rattle.rows.proofs.Rows.{room-none}
 use Rattle.clock.specs.declared.Clock.{Clock}
 use Rattle.clock.specs.Time.{clock_of, stored_clock}
@@ -26,17 +27,32 @@ use Rattle.held.specs.Held.{Closes}
 use Rattle.cuts.specs.Steps.{line_of, front_after, front_fresh, front_none, front_says, verdict_by, refusal_by, told_by, says}
 use Rattle.cuts.specs.Fronts.{with_cut, front_of, Holds}
 use Rattle.cuts.proofs.Lines.{open_at-output, open_at-input, holds-one}
-use Rattle.session_record.specs.declared.Reply.{Reply}
-use Rattle.session_record.specs.declared.Answer.{Answer}
-use Rattle.session_record.specs.Step.{answer_of}
-use Rattle.session_record.specs.Lent.{Memory, memory, held_in, Ready, Advanced, LineTaken}
+use Rattle.outcomes.specs.Numbers.{refusal_number, verdict_meant}
+use Rattle.outcomes.specs.declared.Refusal.{Refusal}
+use Rattle.outcomes.specs.declared.Verdict.{Verdict as Told-verdict}
+use Rattle.outcomes.specs.declared.Verdict.TheVariants.{Blind}
+use Rattle.outcomes.proofs.Same.{refusal_not_0}
+use Rattle.session_record.specs.declared.Told.{Told}
+use Rattle.session_record.specs.Step.{answer_in, answer_of}
+use Rattle.session_record.specs.Lent.{Memory, memory, held_in, Ready, Advanced}
+use Rattle.answers.specs.declared.Reply.{Reply}
+use Rattle.answers.specs.Taken.{LineTaken}
 use Rattle.session_record.proofs.Fit.{Fit}
 use Rattle.session_record.proofs.Ready.{blind-ready, open_ready, call-refused, call-taken, taken-fits}
 use Rattle.answers.proofs.Lines.{Comes, line_skipped, line_first, line-next, line_crowded}
 
+-- Rows with the one cut of a run that has no line hold that run.
+pub begun-holds : (p : Property) → property_refusal (meant p) ≡ 0 → (rows after : List (List ℕ)) → Room rows none → 3 < length rows
+    → after ≡ with_cut rows none 0 0 (cut_of at_start) → Holds p (front_fresh p) after none 0
+begun-holds p good rows after room there e =
+    subst (λ (x : List (List ℕ)). Holds p (front_fresh p) x none 0) (sym e)
+    (subst (λ (x : Lengths). Holds p (record { before = x; held = [] }) (with_cut rows none 0 0 (cut_of at_start)) none 0)
+    (set_back p good at_start (start_short (meant p)))
+    (holds-one p rows none 0 (cut_of at_start) good room there refl (short_fits p good at_start (start_short (meant p)))))
+
 -- The call leads to these rows and what is given back beside them.
 abbrev pub Leads : Memory → Call → List (List ℕ) → Reply → Type 0
-Leads m k rows r = Advanced m k r.answer (memory m.property rows r.status)
+Leads m k rows r = Advanced m k (answer_in (Ok r.told)) (memory m.property rows r.status)
 
 module _ (m : Memory) (ready : Ready m) where
   abbrev p : Property
@@ -52,15 +68,15 @@ module _ (m : Memory) (ready : Ready m) where
   front_if b e = ap (λ (x : Bool). cond x (front_none p) own) e
 
   -- A call refused.
-  pub refused_leads : (k : Call) (n : ℕ) → refusal_by p c k ≡ n → (n ≡ 0 → ⊥) → (r : Reply) → r ≡ record { answer = answer_of (Calls.refused n); status = m.status }
-      → Leads m k m.rows r
-  refused_leads k n e h r q = subst (Leads m k m.rows) (sym q) (call-refused m ready k n e h)
+  pub refused_leads : (k : Call) (refusal : Refusal) → refusal_by p c k ≡ refusal_number refusal → Advanced m k (answer_in (Err refusal)) m
+  refused_leads k refusal e = call-refused m ready k (refusal_number refusal) e (refusal_not_0 refusal)
 
   -- A call after which no run is open: the rows are as they were.
   blind_leads : (k : Call) (clock : Calls.Clock) → clock.is_blind ≡ true → Comes p c k (record { clock = clock; front = front_none p })
-      → (a : Answer) → a ≡ answer_of (told_by p c k) → (r : Reply) → r ≡ record { answer = a; status = record { span = none; clock = stored_clock clock } }
+      → (t : Told) → answer_in (Ok t) ≡ answer_of (told_by p c k) → (r : Reply) → r ≡ record { told = t; status = record { span = none; clock = stored_clock clock } }
       → Leads m k m.rows r
-  blind_leads k clock b w a told r q = subst (Leads m k m.rows) (sym q) (call-taken m ready k a after refl w.none (w.taken ∙ held) told is_ready)
+  blind_leads k clock b w t told r q =
+      subst (Leads m k m.rows) (sym q) (call-taken m ready k (answer_in (Ok t)) after refl w.none (w.taken ∙ held) told is_ready)
     where
       after : Memory
       after = memory p m.rows (record { span = none; clock = stored_clock clock })
@@ -85,17 +101,17 @@ module _ (m : Memory) (ready : Ready m) where
 
     -- a line skipped
     pub skipped_leads : c.clock.is_blind ≡ true → beyond (meant p) c.clock stamp ≡ false → (clock : Clock) → clock ≡ stored_clock (ticked c.clock l true) → (r : Reply)
-        → r ≡ record { answer = record { refusal = 0; verdict = 3; open_count = 0 }; status = record { span = none; clock = clock } } → Leads m k m.rows r
+        → r ≡ record { told = record { verdict = Blind; open_count = 0 }; status = record { span = none; clock = clock } } → Leads m k m.rows r
     skipped_leads e far clock t r q =
         let w = line_skipped p c output action stamp n number zero e far in
         blind_leads k (ticked c.clock l true) refl w _ (comes_told _ w) r
-        (q ∙ ap (λ (x : Clock). record { answer = record { refusal = 0; verdict = 3; open_count = 0 }; status = record { span = none; clock = x } }) t)
+        (q ∙ ap (λ (x : Clock). record { told = record { verdict = Blind; open_count = 0 }; status = record { span = none; clock = x } }) t)
 
     -- a line of a run, taken
     run_leads : (f : Front Lengths) → Comes p c k (record { clock = ticked c.clock l false; front = f }) → (clock : Clock) → clock ≡ stored_clock (ticked c.clock l false)
         → (rows : List (List ℕ)) (r : Reply) → LineTaken p f clock rows r → Leads m k rows r
     run_leads f w clock t rows r y =
-        call-taken m ready k r.answer (memory p rows r.status) refl w.none (w.taken ∙ held) (y.answered ∙ comes_told _ w)
+        call-taken m ready k (answer_in (Ok r.told)) (memory p rows r.status) refl w.none (w.taken ∙ held) (y.answered ∙ comes_told _ w)
         (open_ready (memory p rows r.status) y.holds.usable (ap (λ (x : Clock). x.blind) stamped) (subst (Fit p) (w.taken ∙ held) (taken-fits m ready k w.none)))
       where
         stamped : r.status.clock ≡ stored_clock (ticked c.clock l false)
@@ -104,20 +120,11 @@ module _ (m : Memory) (ready : Ready m) where
         held : record { clock = ticked c.clock l false; front = f } ≡ held_in (memory p rows r.status)
         held = λ i. record { clock = clock_of (sym stamped i); front = cond (sym stamped i).blind (front_none p) (sym y.holds.front i) }
 
-    -- the first of a run: the rows then hold an empty run
-    pub begun-holds : (rows : List (List ℕ)) → rows ≡ with_cut m.rows none 0 0 (cut_of at_start) → Holds p (front_fresh p) rows none 0
-    begun-holds rows e =
-        subst (λ (x : List (List ℕ)). Holds p (front_fresh p) x none 0) (sym e)
-        (subst (λ (x : Lengths). Holds p (record { before = x; held = [] }) (with_cut m.rows none 0 0 (cut_of at_start)) none 0)
-        (set_back p ready.ranged.formed at_start (start_short (meant p)))
-        (holds-one p m.rows none 0 (cut_of at_start) ready.ranged.formed (room-none m.rows m.status.span ready.room) ready.there refl
-        (short_fits p ready.ranged.formed at_start (start_short (meant p)))))
-
+    -- the first of a run
     pub begun_leads : c.clock.is_blind ≡ true → beyond (meant p) c.clock stamp ≡ true → (clock : Clock) → clock ≡ stored_clock (ticked c.clock l false)
-        → (g : Front Lengths) → g ≡ front_fresh p → (rows : List (List ℕ)) (r : Reply) → LineTaken p (front_after p g l) clock rows r → Leads m k rows r
-    begun_leads e far clock t g q rows r y =
-        run_leads (front_after p (front_fresh p) l) (line_first p c output action stamp n number zero e far) clock t rows r
-        (subst (λ (x : Front Lengths). LineTaken p (front_after p x l) clock rows r) q y)
+        → (rows : List (List ℕ)) (r : Reply) → LineTaken p (front_after p (front_fresh p) l) clock rows r → Leads m k rows r
+    begun_leads e far clock t rows r y =
+        run_leads (front_after p (front_fresh p) l) (line_first p c output action stamp n number zero e far) clock t rows r y
 
     -- one more line of the run, or no room for it
     module _ (e : c.clock.is_blind ≡ false) (d : ℕ) (closes : Closes p.ub m.rows m.status.span stamp d) where
@@ -146,20 +153,9 @@ module _ (m : Memory) (ready : Ready m) where
     abbrev g : Call
     g = mark_at lost stamp
 
-    mark_leads : (v : ℕ) → v ≡ verdict_number (verdict_by p c) → (r : Reply)
-        → r ≡ record { answer = record { refusal = 0; verdict = v; open_count = 0 }; status = record { span = none; clock = clock } } → Leads m g m.rows r
+    pub mark_leads : (v : Told-verdict) → verdict_meant v ≡ verdict_by p c → (r : Reply)
+        → r ≡ record { told = record { verdict = v; open_count = 0 }; status = record { span = none; clock = clock } } → Leads m g m.rows r
     mark_leads v e r q =
         blind_leads g (marked c.clock (record { lost = lost; stamp = stamp })) refl (record { none = sym number ∙ zero; taken = refl }) _
-        (ap (λ (x : ℕ). record { refusal = 0; verdict = x; open_count = 0 }) e) r
-        (q ∙ ap (λ (x : Clock). record { answer = record { refusal = 0; verdict = v; open_count = 0 }; status = record { span = none; clock = x } }) t)
-
-    verdict_if : (b : Bool) → c.clock.is_blind ≡ b → cond b Verdict.blind (front_says p (cond b (front_none p) own)) ≡ verdict_by p c
-    verdict_if b e = ap (λ (x : Bool). cond x Verdict.blind (front_says p (cond x (front_none p) own))) (sym e)
-
-    pub marked-blind : c.clock.is_blind ≡ true → (r : Reply)
-        → r ≡ record { answer = record { refusal = 0; verdict = 3; open_count = 0 }; status = record { span = none; clock = clock } } → Leads m g m.rows r
-    marked-blind e r q = mark_leads 3 (ap verdict_number (verdict_if true e)) r q
-
-    pub marked_open : c.clock.is_blind ≡ false → (v : ℕ) → v ≡ verdict_number (front_says p own) → (r : Reply)
-        → r ≡ record { answer = record { refusal = 0; verdict = v; open_count = 0 }; status = record { span = none; clock = clock } } → Leads m g m.rows r
-    marked_open e v h r q = mark_leads v (h ∙ ap verdict_number (verdict_if false e)) r q
+        (ap (λ (x : Verdict). record { refusal = 0; verdict = verdict_number x; open_count = 0 }) e) r
+        (q ∙ ap (λ (x : Clock). record { told = record { verdict = v; open_count = 0 }; status = record { span = none; clock = x } }) t)

@@ -5,7 +5,10 @@ ghost use Rattle.std.specs.Prelude.{◌≡◌, cond, ◌+◌, ◌-◌, ◌≤◌
 ghost use Rattle.meaning.specs.Limits.{last_action, most_open};
 ghost use Rattle.meaning.specs.Numbers.{given, first_of};
 ghost use Rattle.meaning.specs.Calls.{stamp_refusal};
-ghost use Rattle.outcomes.specs.Numbers.{refusal_in};
+ghost use Rattle.outcomes.specs.Numbers.{refusal_in, verdict_meant};
+ghost use Rattle.cuts.specs.Steps.{verdict_by};
+ghost use Rattle.session_record.specs.Lent.{held_in};
+ghost use Rattle.session_record.specs.Loan.{memory_in};
 ghost use Rattle.rows.specs.Rows.{none};
 ghost use Rattle.clock.specs.Time.{clock_of};
 
@@ -13,13 +16,24 @@ use clock::Clock;
 use held::Status;
 use limits::LAST_ACTION;
 use outcomes::{Refusal, Verdict};
-use session_record::Told;
+use session_record::{Lent, Told};
 
 // What is told of a call that is taken, and what stands beside the rows after it.
 #[derive(Clone, Copy)]
 pub struct Reply {
     pub told: Told,
     pub status: Status,
+}
+
+// The verdict that stands.
+pub fn standing(lent: &Lent<'_>) -> Verdict
+    ensures { verdict_meant result ≡ verdict_by lent.now.steps.now.property (held_in (memory_in lent.now)) }
+{
+    let Status { span, clock } = lent.status;
+    if clock.blind {
+        return Verdict::Blind;
+    }
+    cuts::verdict(lent.rows, span, 0)
 }
 
 // No run is open.

@@ -10,7 +10,7 @@ use Rattle.meaning.specs.Calls.{unless_refused}
 use Rattle.meaning.proofs.Refusals.{unless_kept}
 use Rattle.property.specs.Meant.{meant}
 use Rattle.property.specs.declared.Property.{Property}
-use Rattle.session_record.specs.declared.Stepped.{Stepped}
+use Rattle.session_record.specs.Step.{Stepping}
 use Rattle.session_record.specs.Step.{fresh_of}
 use Rattle.session_record.proofs.Steps.{fresh-refused, fresh-taken}
 use Rattle.record_form.specs.Record.{RecordAnswer, Bytes, record_size, write_refusal, written, answered}
@@ -25,8 +25,8 @@ pub fresh-number : (p : Property) → (fresh_of p).answer.refusal ≡ property_r
 fresh-number p = go (property_refusal (meant p)) refl
   where
     go : (n : ℕ) → property_refusal (meant p) ≡ n → (fresh_of p).answer.refusal ≡ n
-    go zero e = ap (λ (r : Stepped). r.answer.refusal) (fresh-taken p e)
-    go (suc n) e = ap (λ (r : Stepped). r.answer.refusal) (fresh-refused p (suc n) e (λ z. omega arith))
+    go zero e = ap (λ (r : Stepping). r.answer.refusal) (fresh-taken p e)
+    go (suc n) e = ap (λ (r : Stepping). r.answer.refusal) (fresh-refused p (suc n) e (λ z. omega arith))
 
 -- a reader's answer that is refused with a number, and the bytes that it takes
 pub answer-refused : (number n size : ℕ) (answer : RecordAnswer) → number ≡ suc n → (answered number answer ≡ Record.refused (suc n)) × (unless_refused number size 0 ≡ 0)

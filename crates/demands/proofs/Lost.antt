@@ -23,7 +23,7 @@ use Rattle.record_form.proofs.Reading.{taken-answer, refusal_of as number_of_lem
 use Rattle.trace_form.proofs.ReadAs.{entry_read}
 use Rattle.trace_form.proofs.Reader.{reads_whole, record_reads}
 use Rattle.session_record.specs.declared.Session.{Session}
-use Rattle.session_record.specs.declared.Stepped.{Stepped}
+use Rattle.session_record.specs.Step.{Stepping}
 use Rattle.session_record.specs.Record.{latest_of, record_of, out_of_range}
 use Rattle.session_record.specs.Step.{refusal_of, stepped_of, stepped_through}
 use Rattle.session_record.proofs.Steps.{answer-refusal}
@@ -103,7 +103,7 @@ pub same_through : {calls others : List Call} → SameCalls calls others → (s 
 unfolding stepped_through
 same_through Forall₂.nil s = refl
 same_through (Forall₂.cons {a = c} {b = d} {l₁ = calls} {l₂ = others} h rest) s =
-    same_through rest (stepped_of s c).session ∙ ap (λ (r : Stepped). stepped_through r.session others) (same_step h s)
+    same_through rest (stepped_of s c).session ∙ ap (λ (r : Stepping). stepped_through r.session others) (same_step h s)
 
 pub same_answers : {calls others : List Call} {c d : Call} → SameCalls calls others → SameCall c d → (s : Session)
     → stepped_of (stepped_through s calls) c ≡ stepped_of (stepped_through s others) d
@@ -126,7 +126,7 @@ same-walk_on zero (Forall₂.cons one rest) s bytes other h g e = refl
 same-walk_on (suc budget) (Forall₂.cons {a = e} {b = f} {l₁ = entries} {l₂ = others} one rest) s bytes other h g q =
     ap (λ (o : One). walked_by o s on) (is e bytes h.0)
     ∙ go (stepped_of s (entry_call e)).answer.refusal refl (λ after b o. same-walk_on budget rest after (drop record_size bytes) (drop record_size other) b o q)
-    ∙ ap (λ (n : ℕ). walked_by (one_call s (entry_call f) n) s on') (ap (λ (r : Stepped). r.answer.refusal) same)
+    ∙ ap (λ (n : ℕ). walked_by (one_call s (entry_call f) n) s on') (ap (λ (r : Stepping). r.answer.refusal) same)
     ∙ sym (ap (λ (o : One). walked_by o s on') (is f other g.0))
   where
     on : Session → Walk
@@ -151,7 +151,7 @@ same-walk_on (suc budget) (Forall₂.cons {a = e} {b = f} {l₁ = entries} {l₂
         (ih (stepped_of s (entry_call e)).session
         (subst (λ (t : ℕ). BeginsWith (drop record_size bytes) t entries) (sym (entry-latest s e z)) h.1)
         (subst (λ (t : ℕ). BeginsWith (drop record_size other) t others) (sym (entry-latest s e z ∙ entry-same e f one)) g.1)
-        ∙ ap (λ (r : Stepped). on' r.session) same))
+        ∙ ap (λ (r : Stepping). on' r.session) same))
     go (suc n) z ih = unfold one_call walked_by in refl
 
 -- A walk takes as many of them, stops in the same way and at the same byte, and leaves the same session: all of its answer but the number

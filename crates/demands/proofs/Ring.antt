@@ -27,8 +27,8 @@ use Rattle.cuts.specs.Steps.{front_none, refusal_by, taken_by, told_by}
 use Rattle.cuts.specs.Fronts.{cut_at, held_at, front_of}
 use Rattle.cuts.proofs.Sweeps.{cut_same, line_same, held_same}
 use Rattle.session_record.specs.declared.Session.{Session}
-use Rattle.session_record.specs.declared.Answer.{Answer}
-use Rattle.session_record.specs.declared.Stepped.{Stepped}
+use Rattle.session_record.specs.Step.{Answer}
+use Rattle.session_record.specs.Step.{Stepping}
 use Rattle.session_record.specs.Record.{rows_of, span_of, latest_of, blind_of, cuts_of, record_of, length_above, out_of_range}
 use Rattle.session_record.specs.Step.{answer_of, refusal_of, stepped_of}
 use Rattle.session_record.proofs.Steps.{step_refused, step_taken, answer-refusal}
@@ -137,17 +137,17 @@ module _ (s r : Session) (same : SaysSame s r) where
     same_answer = go (refusal_of s c) refl
       where
         go : (n : ℕ) → refusal_of s c ≡ n → (stepped_of s c).answer ≡ (stepped_of r c).answer
-        go zero e = ap (λ (x : Stepped). x.answer) (same_taken e)
+        go zero e = ap (λ (x : Stepping). x.answer) (same_taken e)
         go (suc n) e =
-            ap (λ (x : Stepped). x.answer) (step_refused s c (suc n) e (λ z. omega arith))
-            ∙ sym (ap (λ (x : Stepped). x.answer) (step_refused r c (suc n) (sym number ∙ e) (λ z. omega arith)))
+            ap (λ (x : Stepping). x.answer) (step_refused s c (suc n) e (λ z. omega arith))
+            ∙ sym (ap (λ (x : Stepping). x.answer) (step_refused r c (suc n) (sym number ∙ e) (λ z. omega arith)))
 
 -- The same refusal 10, the same answer, and where it is taken the same session.
 pub demand_ring : (s r : Session) → SaysSame s r
     → (out_of_range s ≡ out_of_range r)
     × ((c : Call) → ((stepped_of s c).answer ≡ (stepped_of r c).answer) × ((stepped_of s c).answer.refusal ≡ 0 → (stepped_of s c).session ≡ (stepped_of r c).session))
 demand_ring s r same =
-    (same_named s r same, λ c. (same_answer s r same c, λ e. ap (λ (x : Stepped). x.session) (same_taken s r same c (sym (answer-refusal s c) ∙ e))))
+    (same_named s r same, λ c. (same_answer s r same c, λ e. ap (λ (x : Stepping). x.session) (same_taken s r same c (sym (answer-refusal s c) ∙ e))))
 
 -- ---- a walk: what it comes to is the same, but that one which takes nothing gives back the record that it was given
 

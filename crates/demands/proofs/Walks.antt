@@ -25,7 +25,7 @@ use Rattle.trace_form.proofs.ReadAs.{read-case, refused-given, fields_read}
 use Rattle.trace_form.proofs.Reader.{Reads, record_reads}
 use Rattle.cuts.specs.Steps.{taken_by}
 use Rattle.session_record.specs.declared.Session.{Session}
-use Rattle.session_record.specs.declared.Stepped.{Stepped}
+use Rattle.session_record.specs.Step.{Stepping}
 use Rattle.session_record.specs.Record.{latest_of, cuts_of, out_of_range}
 use Rattle.session_record.specs.Step.{stepped_of, stepped_through}
 use Rattle.session_record.proofs.Steps.{step_taken, answer-refusal}
@@ -73,7 +73,7 @@ entry-stamp (Entry.gap n t) = refl
 
 pub entry-latest : (s : Session) (e : Entry) → (stepped_of s (entry_call e)).answer.refusal ≡ 0 → latest_of (stepped_of s (entry_call e)).session ≡ stamp_of e
 entry-latest s e z =
-    ap (λ (r : Stepped). latest_of r.session) (step_taken s (entry_call e) (sym (answer-refusal s (entry_call e)) ∙ z))
+    ap (λ (r : Stepping). latest_of r.session) (step_taken s (entry_call e) (sym (answer-refusal s (entry_call e)) ∙ z))
     ∙ taken-latest s.property (cuts_of s) (entry_call e)
     ∙ entry-stamp e
 

@@ -6,7 +6,6 @@ ghost use Rattle.session_record.specs.Lent.{Advanced};
 ghost use Rattle.session_record.specs.Step.{answer_in};
 ghost use Rattle.session_record.specs.Loan.{memory_in};
 
-use outcomes::Verdict;
 use session_record::{Answer, Lent};
 
 // A gap mark, with the number of lost lines.
@@ -15,11 +14,7 @@ pub fn mark(lent: &mut Lent<'_>, lost: u8, stamp: u64) -> Answer
 {
     let clock = lent.status.clock;
     answers::refused(lost, clock, stamp)?;
-    let closing = if clock.blind {
-        Verdict::Blind
-    } else {
-        cuts::verdict(lent.rows, lent.status.span, 0)
-    };
+    let closing = answers::standing(lent);
     let reply = answers::blinded(closing, clock::marked(clock, stamp));
     lent.status = reply.status;
     Ok(reply.told)

@@ -1,7 +1,9 @@
 // A line on lent rows: a walk lends them from record to record.
 #![tactic(auto)]
 
+ghost use Rattle.std.specs.Prelude.{◌≡◌, false};
 ghost use Rattle.meaning.specs.Calls.{Call};
+ghost use Rattle.held.specs.Held.{Closes};
 ghost use Rattle.cuts.specs.Steps.{line_of};
 ghost use Rattle.session_record.specs.Lent.{Advanced};
 ghost use Rattle.session_record.specs.Step.{answer_in};
@@ -9,32 +11,44 @@ ghost use Rattle.session_record.specs.Loan.{memory_in};
 
 use answers::{blinded, open_after, refused};
 use clock::{beyond, ticked};
+use held::Status;
 use limits::MOST_OPEN;
 use outcomes::{Refusal, Verdict};
 use property::Line;
-use run_line::{begin, run_on};
+use run_line::{begin_with, run_on};
 use session_record::{Answer, Lent};
+
+// How many of the open inputs have closed at a stamp.
+fn closed(lent: &Lent<'_>, stamp: u64) -> usize
+    requires { lent.now.status.clock.blind ≡ false }
+    ensures { Closes lent.now.steps.now.property.ub lent.now.rows.now lent.now.status.span stamp result }
+{
+    held::closed_count(lent.steps.property.ub, lent.rows, lent.status.span, stamp)
+}
 
 // A line.
 pub fn line(lent: &mut Lent<'_>, line: Line) -> Answer
     ensures { Advanced (memory_in lent.old) (Call.line (line_of line.output line.action line.stamp)) (answer_in result) (memory_in lent.new) }
 {
-    let clock = lent.status.clock;
+    let Status { span, clock } = lent.status;
     let stamp = line.stamp;
     refused(line.action, clock, stamp)?;
-    let reply = if !clock.blind {
-        let span = lent.status.span;
-        let closed = held::closed_count(lent.steps.property.ub, lent.rows, span, stamp);
-        if MOST_OPEN < open_after(span.count, closed, line.output) {
+    if !clock.blind {
+        let gone = closed(lent, stamp);
+        if MOST_OPEN < open_after(span.count, gone, line.output) {
             return Err(Refusal::TooManyOpen);
         }
-        run_on(lent.steps, lent.rows, span, ticked(clock, stamp, false), closed, line)
-    } else if beyond(lent.steps.property, clock, stamp) {
-        let none = begin(lent.rows);
-        run_on(lent.steps, lent.rows, none, ticked(clock, stamp, false), 0, line)
-    } else {
-        blinded(Verdict::Blind, ticked(clock, stamp, true))
-    };
+        let after = ticked(clock, stamp, false);
+        let reply = run_on(lent.steps, lent.rows, span, after, gone, line);
+        lent.status = reply.status;
+        return Ok(reply.told);
+    }
+    if !beyond(lent.steps.property, clock, stamp) {
+        let reply = blinded(Verdict::Blind, ticked(clock, stamp, true));
+        lent.status = reply.status;
+        return Ok(reply.told);
+    }
+    let reply = begin_with(lent.steps, lent.rows, ticked(clock, stamp, false), line);
     lent.status = reply.status;
     Ok(reply.told)
 }

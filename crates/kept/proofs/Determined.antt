@@ -2,7 +2,7 @@
 use mathlib.Core.Path.{◌≡◌, sym, ◌∙◌}
 use Rattle.session_record.specs.Step.{stepped_of}
 use Rattle.session_record.specs.declared.Session.{Session}
-use Rattle.session_record.specs.declared.Answer.{Answer}
+use Rattle.session_record.specs.Step.{Answer}
 use Rattle.kept.specs.Event.{call_of}
 use Rattle.kept.specs.declared.Event.{Event}
 

@@ -14,7 +14,7 @@ use Rattle.trace_form.specs.ReadAs.{case_as}
 use Rattle.trace_form.proofs.Reader.{Reads, record_reads}
 use Rattle.tap_form.proofs.Reader.{tap_reads}
 use Rattle.session_record.specs.declared.Session.{Session}
-use Rattle.session_record.specs.declared.Stepped.{Stepped}
+use Rattle.session_record.specs.Step.{Stepping}
 use Rattle.session_record.specs.Record.{rows_of, latest_of, out_of_range}
 use Rattle.session_record.specs.Step.{fresh_of}
 use Rattle.session_record.specs.Lent.{Memory, memory, record_in, Ready}
@@ -52,7 +52,7 @@ fresh_own p fits = go (property_refusal (meant p)) refl
     go : (n : ℕ) → property_refusal (meant p) ≡ n → (fresh_of p).session ≡ (fresh_of (fresh_of p).session.property).session
     go zero e = ap (λ (s : Session). (fresh_of s.property).session) (sym (fresh_record p e))
     go (suc n) e =
-        let zeros = ap (λ (r : Stepped). out_of_range r.session) (fresh-refused p (suc n) e (λ z. omega arith)) ∙ zeros_named in
+        let zeros = ap (λ (r : Stepping). out_of_range r.session) (fresh-refused p (suc n) e (λ z. omega arith)) ∙ zeros_named in
         absurd (true≢false (sym zeros ∙ fits))
 
 -- A property that was taken has the fresh session of its own property.

@@ -186,10 +186,9 @@ unbroken_read p c e =
         ∙ some_to_agree p.n (λ k. f k && true) f (λ k h. and-true (f k))
 
 pub verdict-read : (p : Property) (c : Cut) → Fits p c → (b u : Bool) → b ≡ bit c.armed 0 → u ≡ not (eqb c.mask 0) || not (eqb (c.armed / 2) 0)
-    → verdict_number (verdict_of (meant p) (lengths (meant p)) b u) ≡ verdict_number (set_verdict p (set_of c))
+    → verdict_of (meant p) (lengths (meant p)) b u ≡ set_verdict p (set_of c)
 unfolding set_of
-verdict-read p c e b u x y =
-    ap₂ (λ (v w : Bool). verdict_number (verdict_of (meant p) (lengths (meant p)) v w)) x (y ∙ sym (unbroken_read p c e))
+verdict-read p c e b u x y = ap₂ (verdict_of (meant p) (lengths (meant p))) x (y ∙ sym (unbroken_read p c e))
 
 -- ---- two sets joined
 

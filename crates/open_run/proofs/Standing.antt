@@ -23,8 +23,8 @@ use Rattle.record_form.specs.declared.RecordRead.TheVariants.{Input, Output, Gap
 use Rattle.trace_form.specs.ReadAs.{ReadAs, case_as}
 use Rattle.cuts.specs.Steps.{line_of, refusal_by}
 use Rattle.session_record.specs.declared.Session.{Session}
-use Rattle.session_record.specs.declared.Answer.{Answer}
-use Rattle.session_record.specs.declared.Stepped.{Stepped}
+use Rattle.session_record.specs.Step.{Answer}
+use Rattle.session_record.specs.Step.{Stepping}
 use Rattle.session_record.specs.Record.{blind_of, cuts_of}
 use Rattle.session_record.specs.Step.{fresh_of, stepped_of, stepped_through}
 use Rattle.session_record.specs.Lent.{Memory, record_in, Ready}
@@ -95,7 +95,7 @@ module _ (m : Memory) (ready : Ready m) (c : Call) (a : Answer) (after : Memory)
   good = ready.ranged.formed
 
   number : (stepped_of s c).answer.refusal ≡ a.refusal
-  number = ap (λ (r : Stepped). r.answer.refusal) led.taken
+  number = ap (λ (r : Stepping). r.answer.refusal) led.taken
 
   did_refused : (a.refusal ≡ 0 → ⊥) → Not a.refusal ≡ did_as (one_read s (ReadAs.call c))
   did_refused some = go a.refusal some number
@@ -110,7 +110,7 @@ module _ (m : Memory) (ready : Ready m) (c : Call) (a : Answer) (after : Memory)
   module _ (calls : List Call) (h : Stands p calls s k) where
     session-next : record_in after ≡ stepped_through (fresh_of p).session (calls ++ c ∷ [])
     session-next =
-        sym (ap (λ (r : Stepped). r.session) led.taken)
+        sym (ap (λ (r : Stepping). r.session) led.taken)
         ∙ ap (λ (x : Session). (stepped_of x c).session) h.session
         ∙ sym (through_last (fresh_of p).session calls c)
 

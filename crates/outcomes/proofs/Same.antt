@@ -1,6 +1,7 @@
 -- A number is that of one refusal, and of one verdict: numbers tell a result whole.
-use Rattle.std.specs.Prelude.{ℕ, ◌≡◌, refl, cond, eqb, Result, Ok, Err}
+use Rattle.std.specs.Prelude.{ℕ, ◌≡◌, refl, true, false, cond, eqb, Result, Ok, Err, is_err}
 use Rattle.std.proofs.Common.{rules, arith}
+use mathlib.Core.Bool.{true≢false}
 use mathlib.Core.Path.{sym, ◌∙◌, ap}
 use Rattle.outcomes.specs.Numbers.{refusal_number, refusal_in, number_told}
 use Rattle.outcomes.specs.declared.Refusal.{Refusal}
@@ -70,3 +71,12 @@ same_check one (Ok x) (Ok y) e = ap Ok (one x y)
 same_check one (Ok x) (Err r) e = absurd (refusal_not_0 r (sym e))
 same_check one (Err r) (Ok x) e = absurd (refusal_not_0 r e)
 same_check one (Err r) (Err t) e = ap Err (same_refusal r t e)
+
+-- A result that is no error has no refusal, and an error has one.
+pub no_refusal : {A : Type 0} (r : Result A Refusal) → is_err r ≡ false → refusal_in r ≡ 0
+no_refusal (Ok x) e = refl
+no_refusal (Err refusal) e = absurd (true≢false e)
+
+pub some_refusal : {A : Type 0} (r : Result A Refusal) → is_err r ≡ true → refusal_in r ≡ 0 → ⊥
+some_refusal (Ok x) e z = true≢false (sym e)
+some_refusal (Err refusal) e z = refusal_not_0 refusal z

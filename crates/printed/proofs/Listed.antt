@@ -10,8 +10,8 @@ use Rattle.trace_form.proofs.ReadAs.{read-case}
 use Rattle.held.specs.declared.Status.{Status}
 use Rattle.cuts.specs.Steps.{line_of}
 use Rattle.session_record.specs.declared.Session.{Session}
-use Rattle.session_record.specs.declared.Stepped.{Stepped}
-use Rattle.session_record.specs.declared.Answer.{Answer}
+use Rattle.session_record.specs.Step.{Stepping}
+use Rattle.session_record.specs.Step.{Answer}
 use Rattle.session_record.specs.Record.{latest_of, out_of_range}
 use Rattle.session_record.specs.Step.{stepped_of}
 use Rattle.session_record.specs.Lent.{Memory, record_in}
@@ -101,10 +101,10 @@ module _ (m : Memory) (count : ℕ) (a : Answer) (status : Status) (next : Memor
       tried = unfold one_read in refl
 
       number : (stepped_of s c).answer.refusal ≡ a.refusal
-      number = ap (λ (y : Stepped). y.answer.refusal) led.taken
+      number = ap (λ (y : Stepping). y.answer.refusal) led.taken
 
       same : (stepped_of s c).session ≡ after
-      same = ap (λ (y : Stepped). y.session) led.taken
+      same = ap (λ (y : Stepping). y.session) led.taken
 
       added : ℕ → Added
       added n = unless_refused n (next_added status count line) (stop n)
@@ -126,8 +126,8 @@ module _ (m : Memory) (count : ℕ) (a : Answer) (status : Status) (next : Memor
       shown stands =
           unfold call_text in
           (λ i. line_text (one_after count) (kind-same output action i) (number_same output action i) stamp
-          ((ap (λ (y : Stepped). y.answer.verdict) (sym led.taken) ∙ stands.verdict) i)
-          ((ap (λ (y : Stepped). y.answer.open_count) (sym led.taken) ∙ stands.counted) i))
+          ((ap (λ (y : Stepping). y.answer.verdict) (sym led.taken) ∙ stands.verdict) i)
+          ((ap (λ (y : Stepping). y.answer.open_count) (sym led.taken) ∙ stands.counted) i))
 
   mark-shown : (lost stamp : ℕ) → (stepped_of s (mark_at lost stamp)).answer.refusal ≡ 0
       → line_text (one_after count) gap lost stamp 3 0 ≡ call_text (one_after count) (mark_at lost stamp) (stepped_of s (mark_at lost stamp)).session

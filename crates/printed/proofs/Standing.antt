@@ -7,7 +7,7 @@ use Rattle.meaning.specs.Matcher.{Lengths}
 use Rattle.meaning.specs.Step.{Cuts}
 use Rattle.cuts.specs.Steps.{verdict_by, taken_by}
 use Rattle.session_record.specs.declared.Session.{Session}
-use Rattle.session_record.specs.declared.Stepped.{Stepped}
+use Rattle.session_record.specs.Step.{Stepping}
 use Rattle.session_record.specs.Record.{count_of, cuts_of, record_of}
 use Rattle.session_record.specs.Step.{refusal_of, stepped_of, standing}
 use Rattle.session_record.proofs.Range.{ranged}
@@ -15,7 +15,7 @@ use Rattle.session_record.proofs.Fit.{cuts_back}
 use Rattle.session_record.proofs.Steps.{answer-refusal, step_taken, taken-fits, step_fit}
 
 -- After a line: its answer has both.
-pub record AsAnswered (r : Stepped) : Type 0 where
+pub record AsAnswered (r : Stepping) : Type 0 where
   pub verdict : r.answer.verdict ≡ standing r.session
   pub counted : r.answer.open_count ≡ count_of r.session
 
@@ -39,4 +39,4 @@ pub record AsBlind (s : Session) : Type 0 where
 pub mark-blind : (s : Session) (g : Mark) → (stepped_of s (Call.mark g)).answer.refusal ≡ 0 → AsBlind (stepped_of s (Call.mark g)).session
 unfolding standing
 mark-blind s g e =
-    subst (λ (r : Stepped). AsBlind r.session) (sym (step_taken s (Call.mark g) (sym (answer-refusal s (Call.mark g)) ∙ e))) (record { verdict = refl; counted = refl })
+    subst (λ (r : Stepping). AsBlind r.session) (sym (step_taken s (Call.mark g) (sym (answer-refusal s (Call.mark g)) ∙ e))) (record { verdict = refl; counted = refl })

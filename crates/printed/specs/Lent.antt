@@ -7,7 +7,7 @@ use Rattle.record_form.specs.Record.{input, output, gap}
 use Rattle.trace_form.specs.ReadAs.{ReadAs}
 use Rattle.held.specs.declared.Status.{Status}
 use Rattle.session_record.specs.declared.Session.{Session}
-use Rattle.session_record.specs.declared.Answer.{Answer}
+use Rattle.session_record.specs.Step.{Answer}
 use Rattle.session_record.specs.Lent.{Memory, record_in, Ready}
 use Rattle.walk.specs.Walk.{one_read}
 use Rattle.line_text.specs.Text.{text_of}

@@ -7,9 +7,9 @@ ghost use Rattle.meaning.specs.Matcher.{at_start};
 ghost use Rattle.matcher.specs.Sets.{cut_of};
 ghost use Rattle.rows.specs.Rows.{none, Room};
 ghost use Rattle.held.specs.Held.{Closes};
-ghost use Rattle.cuts.specs.Steps.{line_of, front_after};
+ghost use Rattle.cuts.specs.Steps.{line_of, front_after, front_fresh};
 ghost use Rattle.cuts.specs.Fronts.{with_cut, front_of, Usable};
-ghost use Rattle.run_line.specs.Taken.{LineTaken};
+ghost use Rattle.answers.specs.Taken.{LineTaken};
 
 use answers::Reply;
 use clock::Clock;
@@ -20,7 +20,7 @@ use session_record::Told;
 use table::Steps;
 
 // The one cut of a run with no line.
-pub fn begin(rows: &mut [Words]) -> Span
+fn begin(rows: &mut [Words]) -> Span
     requires { Room rows.old none × (3 < length rows.old) }
     ensures { (result ≡ none) × (rows.new ≡ with_cut rows.old none 0 0 (cut_of at_start)) }
 {
@@ -59,4 +59,14 @@ pub fn run_on(
         },
         status: Status { span: left, clock },
     }
+}
+
+// The first line of a run. `clock` is the one after it.
+pub fn begin_with(steps: &Steps, rows: &mut [Words], clock: Clock, line: Line) -> Reply
+    requires { Room rows.old none × (3 < length rows.old) × (line.stamp ≤ last_stamp) }
+    ensures { LineTaken steps.now.property
+        (front_after steps.now.property (front_fresh steps.now.property) (line_of line.output line.action line.stamp)) clock rows.new result }
+{
+    let none = begin(rows);
+    run_on(steps, rows, none, clock, 0, line)
 }

@@ -12,7 +12,7 @@ use Rattle.meaning.proofs.Refusals.{unless_taken, unless_kept}
 use Rattle.property.specs.Meant.{meant}
 use Rattle.property.specs.declared.Property.{Property}
 use Rattle.cuts.specs.Steps.{fresh_by, refusal_by, taken_by, next_by, told_by, answer_by, after_by}
-use Rattle.session_record.specs.declared.Stepped.{Stepped}
+use Rattle.session_record.specs.Step.{Stepping}
 use Rattle.session_record.specs.Record.{cuts_of, record_of}
 use Rattle.session_record.specs.Step.{answer_of, refusal_of, stepped_of, stepped_through}
 use Rattle.session_record.proofs.Fit.{Fit, cuts_back, in_range, fresh_fit, next_fit}
@@ -20,7 +20,7 @@ use Rattle.session_record.proofs.Steps.{step_refused, step_taken, refusal-fits}
 
 module _ (p : Property) (good : property_refusal (meant p) ≡ 0) where
   -- What the step over cuts gives, in the record's terms.
-  abbrev pub step_over : Cuts Lengths → Call → Stepped
+  abbrev pub step_over : Cuts Lengths → Call → Stepping
   step_over c k = record { answer = answer_of (answer_by p c k); session = record_of p (next_by p c k) }
 
   -- one step of the record is one step over cuts
@@ -58,7 +58,7 @@ module _ (p : Property) (good : property_refusal (meant p) ≡ 0) where
   through_same : {c : Cuts Lengths} → Fit p c → (ks : List Call) → stepped_through (record_of p c) ks ≡ record_of p (after_by p c ks)
   unfolding stepped_through cuts_after
   through_same f [] = refl
-  through_same {c} f (k ∷ ks) = ap (λ (r : Stepped). stepped_through r.session ks) (step_same f k) ∙ through_same {c = next_by p c k} (next_fit p good f k) ks
+  through_same {c} f (k ∷ ks) = ap (λ (r : Stepping). stepped_through r.session ks) (step_same f k) ∙ through_same {c = next_by p c k} (next_fit p good f k) ks
 
   through_fit : {c : Cuts Lengths} → Fit p c → (ks : List Call) → Fit p (after_by p c ks)
   unfolding cuts_after

@@ -7,3 +7,4 @@ pub mod Grown
 pub mod Running
 pub mod Ready
 pub mod Making
+pub mod Same

@@ -21,8 +21,8 @@ use Rattle.rows.specs.Rows.{word, Within, Room}
 use Rattle.cuts.specs.Steps.{front_none, fresh_by, refusal_by, taken_by, told_by, says}
 use Rattle.cuts.specs.Fronts.{held_at, front_of, Usable}
 use Rattle.session_record.specs.declared.Session.{Session}
-use Rattle.session_record.specs.declared.Answer.{Answer}
-use Rattle.session_record.specs.declared.Stepped.{Stepped}
+use Rattle.session_record.specs.Step.{Answer}
+use Rattle.session_record.specs.Step.{Stepping}
 use Rattle.session_record.specs.Record.{rows_of, span_of, cuts_of, record_of, out_of_range}
 use Rattle.session_record.specs.Step.{answer_of, refusal_of, stepped_of, fresh_of}
 use Rattle.session_record.specs.Lent.{Memory, memory, memory_of, held_in, record_in, tidied, Ready, Advanced}
@@ -171,7 +171,7 @@ module _ (s : Session) (fits : out_of_range s ≡ false) (k : Call) where
 
   module _ (a : Answer) (after : Memory) (led : Advanced (memory_of s) k a after) where
     told : a.refusal ≡ refusal_of s k
-    told = ap (λ (r : Stepped). r.answer.refusal) (sym led.stepped) ∙ answer-refusal (tidied s) k ∙ tidied-refusal
+    told = ap (λ (r : Stepping). r.answer.refusal) (sym led.stepped) ∙ answer-refusal (tidied s) k ∙ tidied-refusal
 
     pub by_value_taken : a.refusal ≡ 0 → record { answer = a; session = record_in after } ≡ stepped_of s k
     by_value_taken e = sym led.stepped ∙ tidied-taken (sym told ∙ e)
@@ -181,20 +181,20 @@ module _ (s : Session) (fits : out_of_range s ≡ false) (k : Call) where
 
 -- ---- the rows of a fresh session
 
-module _ (p : Property) (good : property_refusal (meant p) ≡ 0) (r : Stepped) (e : r ≡ fresh_of p) (rows : List (List ℕ)) (same : rows ≡ rows_of r.session) where
+module _ (p : Property) (good : property_refusal (meant p) ≡ 0) (r : Stepping) (e : r ≡ fresh_of p) (rows : List (List ℕ)) (same : rows ≡ rows_of r.session) where
   abbrev pub fresh-memory : Memory
   fresh-memory = memory p rows r.session.shared.status
 
-  taken : ◌≡◌ {A = Stepped} r (record { answer = answer_of (says p Verdict.clear 0); session = record_of p (fresh_by p) })
+  taken : ◌≡◌ {A = Stepping} r (record { answer = answer_of (says p Verdict.clear 0); session = record_of p (fresh_by p) })
   taken = e ∙ fresh-taken p good
 
   pub fresh_means : record_in fresh-memory ≡ record_of p (fresh_by p)
   fresh_means =
       ap (λ (x : List (List ℕ)). record_in (memory p x r.session.shared.status)) same
-      ∙ ap (λ (x : Stepped). record_in (memory p (rows_of x.session) x.session.shared.status)) taken
+      ∙ ap (λ (x : Stepping). record_in (memory p (rows_of x.session) x.session.shared.status)) taken
       ∙ ap (record_of p) (cuts_back p good (fresh_fit p))
 
   pub fresh-ready : ((span : Span) → Within span → Room rows span) → Ready fresh-memory
   fresh-ready rooms =
-      subst (λ (q : Property). Ready (memory q rows r.session.shared.status)) (ap (λ (x : Stepped). x.session.property) taken)
-      (lent-ready r.session (ap (λ (x : Stepped). out_of_range x.session) taken ∙ in_range p good (fresh_fit p)) rows same rooms)
+      subst (λ (q : Property). Ready (memory q rows r.session.shared.status)) (ap (λ (x : Stepping). x.session.property) taken)
+      (lent-ready r.session (ap (λ (x : Stepping). out_of_range x.session) taken ∙ in_range p good (fresh_fit p)) rows same rooms)

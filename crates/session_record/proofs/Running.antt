@@ -15,7 +15,7 @@ use Rattle.property.specs.declared.Property.{Property}
 use Rattle.property.proofs.Refusal.{length-refused}
 use Rattle.cuts.specs.Steps.{fresh_by, answer_by}
 use Rattle.session_record.specs.declared.Session.{Session}
-use Rattle.session_record.specs.declared.Stepped.{Stepped}
+use Rattle.session_record.specs.Step.{Stepping}
 use Rattle.session_record.specs.Record.{record_of, out_of_range}
 use Rattle.session_record.specs.Step.{answer_of, no_session, fresh_of, stepped_of, stepped_through}
 use Rattle.session_record.proofs.Range.{outside, crowded, fallen, held-blind, late, too_long, range_tests}
@@ -25,7 +25,7 @@ use Rattle.session_record.proofs.Grown.{step_over, grown_record, grown_step}
 module _ (p : Property) (good : property_refusal (meant p) ≡ 0) where
   -- the fresh call is taken
   pub fresh_record : (fresh_of p).session ≡ record_of p (fresh_by p)
-  fresh_record = ap (λ (r : Stepped). r.session) (fresh-taken p good)
+  fresh_record = ap (λ (r : Stepping). r.session) (fresh-taken p good)
 
   -- The session after any calls is the record of the meaning's session over cuts,
   pub running_record : (ks : List Call) → stepped_through (fresh_of p).session ks ≡ record_of p (grown (meant p) ks)
@@ -36,7 +36,7 @@ module _ (p : Property) (good : property_refusal (meant p) ≡ 0) where
   running_step ks k = ap (λ (s : Session). stepped_of s k) (running_record ks) ∙ grown_step p good ks k
 
   pub running_answer : (ks : List Call) (k : Call) → (stepped_of (stepped_through (fresh_of p).session ks) k).answer ≡ answer_of (answer_by p (grown (meant p) ks) k)
-  running_answer ks k = ap (λ (r : Stepped). r.answer) (running_step ks k)
+  running_answer ks k = ap (λ (r : Stepping). r.answer) (running_step ks k)
 
 -- The session of zeros is one that refusal 10 names: its property has no action.
 pub zeros_named : out_of_range no_session ≡ true
@@ -49,11 +49,11 @@ zeros_named =
 
 -- A call on what a refused fresh call gave back is refusal 10, and that comes back as it was.
 pub refused_fresh_then : (p : Property) → (property_refusal (meant p) ≡ 0 → ⊥) → (k : Call)
-    → ◌≡◌ {A = Stepped} (stepped_of (fresh_of p).session k) (record { answer = answer_of (Calls.refused 10); session = (fresh_of p).session })
+    → ◌≡◌ {A = Stepping} (stepped_of (fresh_of p).session k) (record { answer = answer_of (Calls.refused 10); session = (fresh_of p).session })
 refused_fresh_then p bad k =
     ap (λ (s : Session). stepped_of s k) given_back
     ∙ named_refused no_session k zeros_named
     ∙ ap (λ (s : Session). record { answer = answer_of (Calls.refused 10); session = s }) (sym given_back)
   where
     given_back : (fresh_of p).session ≡ no_session
-    given_back = ap (λ (r : Stepped). r.session) (fresh-refused p (property_refusal (meant p)) refl bad)
+    given_back = ap (λ (r : Stepping). r.session) (fresh-refused p (property_refusal (meant p)) refl bad)

@@ -12,7 +12,7 @@ use Rattle.property.specs.Meant.{meant}
 use Rattle.property.specs.declared.Property.{Property}
 use Rattle.cuts.specs.Steps.{fresh_by, refusal_by, taken_by, told_by, says}
 use Rattle.session_record.specs.declared.Session.{Session}
-use Rattle.session_record.specs.declared.Stepped.{Stepped}
+use Rattle.session_record.specs.Step.{Stepping}
 use Rattle.session_record.specs.Record.{cuts_of, record_of, out_of_range}
 use Rattle.session_record.specs.Step.{answer_of, refusal_of, stepped_of, no_session, fresh_of}
 use Rattle.session_record.specs.Lent.{memory_of}
@@ -28,7 +28,7 @@ step_refused s k n e h =
     unless_kept (refusal_of s k) _ _ (λ z. h (sym e ∙ z)) ∙ ap (λ (m : ℕ). record { answer = answer_of (Calls.refused m); session = s }) e
 
 pub step_taken : (s : Session) (k : Call) → refusal_of s k ≡ 0
-    → ◌≡◌ {A = Stepped} (stepped_of s k)
+    → ◌≡◌ {A = Stepping} (stepped_of s k)
     (record { answer = answer_of (told_by s.property (cuts_of s) k); session = record_of s.property (taken_by s.property (cuts_of s) k) })
 unfolding stepped_of
 step_taken s k e = unless_taken (refusal_of s k) _ _ e
@@ -39,7 +39,7 @@ unfolding stepped_of
 answer-refusal s k = go (refusal_of s k) k
   where
     go : (n : ℕ) (c : Call)
-        → (unless_refused {A = Stepped} n
+        → (unless_refused {A = Stepping} n
         (record { answer = answer_of (told_by s.property (cuts_of s) c); session = record_of s.property (taken_by s.property (cuts_of s) c) })
         (record { answer = answer_of (Calls.refused n); session = s })).answer.refusal ≡ n
     go zero (Call.line l) = refl
@@ -79,8 +79,8 @@ stays_in_range s e k = go (refusal_of s k) refl
   where
     go : (n : ℕ) → refusal_of s k ≡ n → out_of_range (stepped_of s k).session ≡ false
     go zero z =
-        subst (λ (r : Stepped). out_of_range r.session ≡ false) (sym (step_taken s k z)) (in_range s.property (ranged s e).formed (step_fit s k z))
-    go (suc n) z = subst (λ (r : Stepped). out_of_range r.session ≡ false) (sym (step_refused s k (suc n) z (λ w. omega arith))) e
+        subst (λ (r : Stepping). out_of_range r.session ≡ false) (sym (step_taken s k z)) (in_range s.property (ranged s e).formed (step_fit s k z))
+    go (suc n) z = subst (λ (r : Stepping). out_of_range r.session ≡ false) (sym (step_refused s k (suc n) z (λ w. omega arith))) e
 
 -- ---- a fresh call
 
@@ -91,6 +91,6 @@ fresh-refused p n e h =
     unless_kept (property_refusal (meant p)) _ _ (λ z. h (sym e ∙ z)) ∙ ap (λ (m : ℕ). record { answer = answer_of (Calls.refused m); session = no_session }) e
 
 pub fresh-taken : (p : Property) → property_refusal (meant p) ≡ 0
-    → ◌≡◌ {A = Stepped} (fresh_of p) (record { answer = answer_of (says p Verdict.clear 0); session = record_of p (fresh_by p) })
+    → ◌≡◌ {A = Stepping} (fresh_of p) (record { answer = answer_of (says p Verdict.clear 0); session = record_of p (fresh_by p) })
 unfolding fresh_of
 fresh-taken p e = unless_taken (property_refusal (meant p)) _ _ e

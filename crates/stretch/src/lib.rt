@@ -3,11 +3,7 @@
 
 ghost use Rattle.std.specs.Prelude.{◌≡◌};
 ghost use Rattle.meaning.specs.Numbers.{property_refusal};
-ghost use Rattle.outcomes.specs.Numbers.{number_told};
 ghost use Rattle.property.specs.Meant.{meant};
-ghost use Rattle.session_record.specs.Step.{standing};
-ghost use Rattle.session_record.specs.Lent.{record_in};
-ghost use Rattle.session_record.specs.Loan.{memory_in};
 ghost use Rattle.stretch.specs.Judge.{judged_in, trace_judged, judge_of, one_number};
 ghost use Rattle.stretch.specs.Version.{interface_version};
 
@@ -28,16 +24,6 @@ const VERSION: u64 = 4;
 pub struct Judged {
     pub verdict: Verdict,
     pub count: usize,
-}
-
-// The verdict standing on a session.
-fn verdict_of(lent: &Lent<'_>) -> Verdict
-    ensures { number_told result ≡ standing (record_in (memory_in lent.now)) }
-{
-    if lent.status.clock.blind {
-        return Verdict::Blind;
-    }
-    cuts::verdict(lent.rows, lent.status.span, 0)
 }
 
 // The trace, by a property that is taken.
@@ -61,7 +47,7 @@ fn trace_verdict(p: Property, trace: &[u8]) -> Result<Judged, Refusal>
                 return Err(Refusal::Broken);
             }
             Ok(Judged {
-                verdict: verdict_of(&lent),
+                verdict: answers::standing(&lent),
                 count: went.taken,
             })
         }

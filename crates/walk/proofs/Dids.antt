@@ -13,8 +13,8 @@ use Rattle.record_form.specs.declared.RecordRead.{RecordRead}
 use Rattle.record_form.specs.declared.RecordRead.TheVariants.{Input, Output, Gap, End as RecordEnd, Refused as RecordRefused}
 use Rattle.trace_form.proofs.ReadAs.{read_known, read_whole, fields_read}
 use Rattle.session_record.specs.declared.Session.{Session}
-use Rattle.session_record.specs.declared.Answer.{Answer}
-use Rattle.session_record.specs.declared.Stepped.{Stepped}
+use Rattle.session_record.specs.Step.{Answer}
+use Rattle.session_record.specs.Step.{Stepping}
 use Rattle.session_record.specs.Record.{latest_of}
 use Rattle.session_record.specs.Step.{stepped_of}
 use Rattle.session_record.specs.Lent.{Memory, record_in, Ready}
@@ -48,7 +48,7 @@ pub record Turned (m : Memory) (lost : ℕ) (bytes : List ℕ) (did : Did) (afte
 
 -- what a refused call leaves: the session as it was
 pub refused_stays : (s : Session) (c : Call) (n : ℕ) → (stepped_of s c).answer.refusal ≡ suc n → (stepped_of s c).session ≡ s
-refused_stays s c n e = ap (λ (r : Stepped). r.session) (step_refused s c (suc n) (sym (answer-refusal s c) ∙ e) (λ z. omega arith))
+refused_stays s c n e = ap (λ (r : Stepping). r.session) (step_refused s c (suc n) (sym (answer-refusal s c) ∙ e) (λ z. omega arith))
 
 -- ---- what the record at the front stands for
 
@@ -80,10 +80,10 @@ module _ (m : Memory) (bytes : List ℕ) (r : RecordRead) (h : IsRead bytes (lat
       tried = unfold one_read in refl
 
       number : (stepped_of s c).answer.refusal ≡ a.refusal
-      number = ap (λ (y : Stepped). y.answer.refusal) led.taken
+      number = ap (λ (y : Stepping). y.answer.refusal) led.taken
 
       same : (stepped_of s c).session ≡ record_in after
-      same = ap (λ (y : Stepped). y.session) led.taken
+      same = ap (λ (y : Stepping). y.session) led.taken
 
       -- the record is the one at the front of the bytes
       front : record_answer bytes (latest_of s) ≡ numbers x

@@ -9,7 +9,7 @@ use Rattle.meaning.proofs.Refusals.{unless_taken, unless_kept}
 use Rattle.record_form.specs.Record.{record_size, record_answer}
 use Rattle.trace_form.specs.ReadAs.{ReadAs, read_as}
 use Rattle.session_record.specs.declared.Session.{Session}
-use Rattle.session_record.specs.declared.Stepped.{Stepped}
+use Rattle.session_record.specs.Step.{Stepping}
 use Rattle.session_record.specs.Record.{latest_of, out_of_range}
 use Rattle.session_record.specs.Step.{refusal_of}
 use Rattle.session_record.specs.Lent.{tidied}
@@ -26,7 +26,7 @@ module _ (s : Session) (fits : out_of_range s ≡ false) where
   -- A record does the same to both.
   call_same : (c : Call) (n : ℕ) → refusal_of s c ≡ n → one_call (tidied s) c n ≡ one_call s c n
   unfolding one_call
-  call_same c zero e = ap (λ (r : Stepped). One.took c r.session) (tidied-taken s fits c e)
+  call_same c zero e = ap (λ (r : Stepping). One.took c r.session) (tidied-taken s fits c e)
   call_same c (suc n) e = refl
 
   pub one_same : (x : ReadAs) → one_read (tidied s) x ≡ one_read s x

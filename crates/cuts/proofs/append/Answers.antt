@@ -9,10 +9,10 @@ use Rattle.cuts.proofs.Lines.{rows-appended}
 use Rattle.cuts.proofs.append.Goals as goal
 
 pub moved-cut-requires : goal.moved-cut-requires
-moved-cut-requires c = (c.requires.0.formed, c.requires.1, subst (Fits c.args.p) (sym c.cut_at-last.ensures) (c.requires.0.fits c.args.span.count (omega arith)))
+moved-cut-requires c = subst (Fits c.args.steps.now.property) (sym c.cut_at-last.ensures) (c.requires.0.fits c.args.span.count (omega arith))
 
 pub returns : goal.returns
 returns c =
     let a = c.args in
-    rows-appended a.p a.rows.now c.put_cut.new.rows a.span a.j a.action _ c.moved-cut.result c.requires.0 c.requires.2 refl
-    (subst (λ (x : Cut). Moved a.p x (action_of false a.action) c.moved-cut.result) c.cut_at-last.ensures c.moved-cut.ensures) c.put_cut.ensures
+    rows-appended a.steps.now.property a.rows.now c.put_cut.new.rows a.span a.j a.action _ c.moved-cut.result c.requires.0 c.requires.1 refl
+    (subst (λ (x : Cut). Moved a.steps.now.property x (action_of false a.action) c.moved-cut.result) c.cut_at-last.ensures c.moved-cut.ensures) c.put_cut.ensures

@@ -43,38 +43,38 @@ module _ (rows now : List (List ℕ)) (s : Span) (j : ℕ) (c : Cut) (room : Roo
     loop-there rows' tall = subst (λ (n : ℕ). 3 + 2 * j < n) (sym tall) first_there
 
 pub cut_at-requires : goal.cut_at-requires
-cut_at-requires c = (c.requires.0.room, c.requires.0.there, omega arith)
+cut_at-requires c = (c.requires.room, c.requires.there, omega arith)
 
 pub moved-cut-requires : goal.moved-cut-requires
-moved-cut-requires c = (c.requires.0.formed, c.requires.1, subst (Fits c.args.p) (sym c.cut_at.ensures) (c.requires.0.fits 0 (omega arith)))
+moved-cut-requires c = (subst (Fits c.args.steps.now.property) (sym c.cut_at.ensures) (c.requires.fits 0 (omega arith)))
 
 pub put_cut-requires : goal.put_cut-requires
-put_cut-requires c = (c.requires.0.room, c.requires.0.there, omega arith)
+put_cut-requires c = (c.requires.room, c.requires.there, omega arith)
 
 pub word-held-requires : goal.word-held-requires
 word-held-requires c =
     let a = c.args in
-    let u = c.requires.0 in
+    let u = c.requires in
     let r = stored_room a.rows.now c.put_cut.new.rows a.span a.j c.moved-cut.result u.room u.there 0 (omega arith) c.put_cut.ensures in
     (r, omega (arith, r.shared), omega arith)
 
 pub word-input-requires : goal.word-input-requires
 word-input-requires c =
     let a = c.args in
-    let u = c.requires.0 in
+    let u = c.requires in
     let r = stored_room a.rows.now c.put_cut.new.rows a.span a.j c.moved-cut.result u.room u.there 0 (omega arith) c.put_cut.ensures in
     (r, r.shared, omega arith)
 
 pub loop-i-init : goal.loop-i-init
 loop-i-init c =
     let a = c.args in
-    let u = c.requires.0 in
+    let u = c.requires in
     let cut = c.moved-cut in
     let mid = c.put_cut.new.rows in (
-      sweeping_first a.p mid a.span a.j a.action a.stamp (set_of cut.result) cut.result
+      sweeping_first a.steps.now.property mid a.span a.j a.action a.stamp (set_of cut.result) cut.result
           (stored_room a.rows.now mid a.span a.j cut.result u.room u.there 0 (omega arith) c.put_cut.ensures)
           (first a.rows.now mid a.span a.j cut.result u.room u.there c.put_cut.ensures) refl cut.ensures.fits,
-      new_set_none a.p mid a.span a.j a.action a.stamp (set_of cut.result),
+      new_set_none a.steps.now.property mid a.span a.j a.action a.stamp (set_of cut.result),
       cut.ensures.fits,
       c.word-held.ensures,
       c.word-input.ensures,
@@ -83,7 +83,7 @@ loop-i-init c =
 pub cut_at-after-requires : goal.cut_at-after-requires
 cut_at-after-requires c =
     let a = c.args in
-    let u = c.requires.0 in
+    let u = c.requires in
     let w = c.loop-i in (
       w.invariant.0.room,
       loop-there a.rows.now c.put_cut.new.rows a.span a.j c.moved-cut.result u.room u.there c.put_cut.ensures w.rows w.invariant.0.tall,
@@ -93,18 +93,16 @@ cut_at-after-requires c =
 pub swept_cut-cut-requires : goal.swept_cut-cut-requires
 swept_cut-cut-requires c =
     let a = c.args in
-    let u = c.requires.0 in
+    let u = c.requires in
     let w = c.loop-i in
     let mid = c.put_cut.new.rows in
     let cut = c.moved-cut.result in
     let inside : w.i + 1 ≤ 64 = omega (arith, u.room.within.few, c.loop-i-test.true) in (
-      u.formed,
-      c.requires.1,
       subst (λ (x : ℕ). x ≤ last_stamp)
           (sym (w.invariant.3 ∙ first_word a.rows.now mid a.span a.j cut u.room u.there c.put_cut.ensures w.i))
           (u.stamps w.i c.loop-i-test.true),
       w.invariant.2,
-      subst (Fits a.p)
+      subst (Fits a.steps.now.property)
           (sym
           (c.cut_at-after.ensures
           ∙ w.invariant.0.kept (w.i + 1) (omega arith) inside
@@ -115,7 +113,7 @@ swept_cut-cut-requires c =
 pub put_cut-requires-in-loop-i : goal.put_cut-requires-in-loop-i
 put_cut-requires-in-loop-i c =
     let a = c.args in
-    let u = c.requires.0 in
+    let u = c.requires in
     let w = c.loop-i in (
       w.invariant.0.room,
       loop-there a.rows.now c.put_cut.new.rows a.span a.j c.moved-cut.result u.room u.there c.put_cut.ensures w.rows w.invariant.0.tall,
@@ -125,7 +123,7 @@ put_cut-requires-in-loop-i c =
 pub word-held-requires-in-loop-i : goal.word-held-requires-in-loop-i
 word-held-requires-in-loop-i c =
     let a = c.args in
-    let u = c.requires.0 in
+    let u = c.requires in
     let w = c.loop-i in
     let there = loop-there a.rows.now c.put_cut.new.rows a.span a.j c.moved-cut.result u.room u.there c.put_cut.ensures w.rows w.invariant.0.tall in
     let few : w.i + 1 ≤ 64 = omega (arith, u.room.within.few, c.loop-i-test.true) in
@@ -136,7 +134,7 @@ word-held-requires-in-loop-i c =
 pub word-input-requires-in-loop-i : goal.word-input-requires-in-loop-i
 word-input-requires-in-loop-i c =
     let a = c.args in
-    let u = c.requires.0 in
+    let u = c.requires in
     let w = c.loop-i in
     let there = loop-there a.rows.now c.put_cut.new.rows a.span a.j c.moved-cut.result u.room u.there c.put_cut.ensures w.rows w.invariant.0.tall in
     let few : w.i + 1 ≤ 64 = omega (arith, u.room.within.few, c.loop-i-test.true) in
@@ -147,15 +145,15 @@ word-input-requires-in-loop-i c =
 pub loop-i-preserved : goal.loop-i-preserved
 loop-i-preserved c =
     let a = c.args in
-    let u = c.requires.0 in
+    let u = c.requires in
     let w = c.loop-i in
     let mid = c.put_cut.new.rows in
     let head = set_of c.moved-cut.result in
     let next = w.i + 1 in
     let few : w.i + 1 ≤ 64 = omega (arith, u.room.within.few, c.loop-i-test.true) in
-    let next-set = new_set_next a.p mid a.span a.j a.action a.stamp head w.i w.rows w.cut c.cut_at-after.result c.swept_cut-cut.result w.held w.input
+    let next-set = new_set_next a.steps.now.property mid a.span a.j a.action a.stamp head w.i w.rows w.cut c.cut_at-after.result c.swept_cut-cut.result w.held w.input
     w.invariant.0 (omega (arith, few)) w.invariant.1 c.cut_at-after.ensures w.invariant.3 w.invariant.4 c.swept_cut-cut.ensures in
-    let done = sweeping_more a.p mid a.span a.j a.action a.stamp head next w.rows c.put_cut-in-loop-i.new.rows c.swept_cut-cut.result
+    let done = sweeping_more a.steps.now.property mid a.span a.j a.action a.stamp head next w.rows c.put_cut-in-loop-i.new.rows c.swept_cut-cut.result
     (first_there a.rows.now mid a.span a.j c.moved-cut.result u.room u.there c.put_cut.ensures)
     few w.invariant.0 next-set c.swept_cut-cut.ensures.fits c.put_cut-in-loop-i.ensures in (
       done,
@@ -171,7 +169,7 @@ returns c =
     let w = c.loop-i in
     let cut = c.moved-cut in
     let end : w.i ≡ a.span.count = omega arith in
-    rows-swept a.p a.rows.now c.put_cut.new.rows w.rows a.span a.j a.action a.stamp cut.result c.requires.0
-    (cut.ensures.set a.stamp ∙ ap (λ (x : Cut). moved (meant a.p) (set_of x) (line_of true a.action a.stamp)) c.cut_at.ensures)
+    rows-swept a.steps.now.property a.rows.now c.put_cut.new.rows w.rows a.span a.j a.action a.stamp cut.result c.requires
+    (cut.ensures.set a.stamp ∙ ap (λ (x : Cut). moved (meant a.steps.now.property) (set_of x) (line_of true a.action a.stamp)) c.cut_at.ensures)
     c.put_cut.ensures
-    (subst (λ (i : ℕ). Sweeping a.p c.put_cut.new.rows a.span a.j a.action a.stamp (set_of cut.result) (i + 1) w.rows) end w.invariant.0)
+    (subst (λ (i : ℕ). Sweeping a.steps.now.property c.put_cut.new.rows a.span a.j a.action a.stamp (set_of cut.result) (i + 1) w.rows) end w.invariant.0)

@@ -7,8 +7,8 @@ use Rattle.cuts.proofs.Sweeps.{Sweeping, new_set}
 use Rattle.cuts.proofs.sweep.Given as goal
 
 abbrev pub invariant-loop-i : goal.invariant-loop-i
-invariant-loop-i l = Sweeping l.p l.initial.rows l.span l.j l.action l.stamp (set_of l.initial.cut) (l.i + 1) l.rows
-    × (set_of l.cut ≡ new_set l.p l.initial.rows l.span l.j l.action l.stamp (set_of l.initial.cut) l.i)
-    × Fits l.p l.cut
+invariant-loop-i l = Sweeping l.steps.property l.initial.rows l.span l.j l.action l.stamp (set_of l.initial.cut) (l.i + 1) l.rows
+    × (set_of l.cut ≡ new_set l.steps.property l.initial.rows l.span l.j l.action l.stamp (set_of l.initial.cut) l.i)
+    × Fits l.steps.property l.cut
     × (l.held ≡ word l.initial.rows l.span 0 l.i)
     × (l.input ≡ word l.initial.rows l.span 1 l.i)

@@ -29,24 +29,23 @@ pub sweep-requires : goal.sweep-requires
 sweep-requires c =
     let a = c.args in
     let pre = c.requires in
-    (left a.p a.rows.now a.span c.shorter-left.result a.stamp a.closed pre.usable.0 pre.closes.0 c.shorter-left.ensures, pre.usable.1)
+    left a.steps.now.property a.rows.now a.span c.shorter-left.result a.stamp a.closed pre.usable pre.closes.0 c.shorter-left.ensures
 
 pub returns-then-output : goal.returns-then-output
 returns-then-output c =
     let a = c.args in
     let pre = c.requires in
     let f = front_of a.rows.now a.span 0 in
-    holds_as a.p _ (front_after a.p f (line_of a.output a.action a.stamp)) c.sweep.new.rows c.shorter-left.result 0
-    (line_after a.p f _ a.action a.stamp a.output true
-    (left-front a.p a.rows.now a.span c.shorter-left.result a.stamp a.closed pre.usable.0 pre.closes.0 c.shorter-left.ensures) c.if-output.true)
+    holds_as a.steps.now.property _ (front_after a.steps.now.property f (line_of a.output a.action a.stamp)) c.sweep.new.rows c.shorter-left.result 0
+    (line_after a.steps.now.property f _ a.action a.stamp a.output true
+    (left-front a.steps.now.property a.rows.now a.span c.shorter-left.result a.stamp a.closed pre.usable pre.closes.0 c.shorter-left.ensures) c.if-output.true)
     c.sweep.ensures.holds
 
 pub append-requires : goal.append-requires
 append-requires c =
     let a = c.args in
     let pre = c.requires in (
-      left a.p a.rows.now a.span c.shorter-left.result a.stamp a.closed pre.usable.0 pre.closes.0 c.shorter-left.ensures,
-      pre.usable.1,
+      left a.steps.now.property a.rows.now a.span c.shorter-left.result a.stamp a.closed pre.usable pre.closes.0 c.shorter-left.ensures,
       room a.span c.shorter-left.result a.closed c.shorter-left.ensures (pre.closes.2 c.if-output.false),
     )
 
@@ -61,15 +60,15 @@ returns c =
     let a = c.args in
     let pre = c.requires in
     let f = front_of a.rows.now a.span 0 in
-    let wanted = front_after a.p f (line_of a.output a.action a.stamp) in
+    let wanted = front_after a.steps.now.property f (line_of a.output a.action a.stamp) in
     let s = c.shorter-left.result in
     let is = c.shorter-left.ensures in
     let mid = c.append.new.rows in
-    subst (λ (r : Span). Holds a.p wanted c.append-2.new.rows r 0) (sym c.longer.ensures)
-    (subst (λ (rows : List (List ℕ)). Holds a.p wanted rows (longer s) 0) (sym c.append-2.ensures)
-    (holds_as a.p _ wanted (with_input mid s a.action a.stamp) (longer s) 0
-    (line_after a.p f _ a.action a.stamp a.output false
-    (left-front a.p a.rows.now a.span s a.stamp a.closed pre.usable.0 pre.closes.0 is) c.if-output.false)
-    (holds-appended a.p a.rows.now mid s 0 a.action a.stamp
-    (left a.p a.rows.now a.span s a.stamp a.closed pre.usable.0 pre.closes.0 is)
+    subst (λ (r : Span). Holds a.steps.now.property wanted c.append-2.new.rows r 0) (sym c.longer.ensures)
+    (subst (λ (rows : List (List ℕ)). Holds a.steps.now.property wanted rows (longer s) 0) (sym c.append-2.ensures)
+    (holds_as a.steps.now.property _ wanted (with_input mid s a.action a.stamp) (longer s) 0
+    (line_after a.steps.now.property f _ a.action a.stamp a.output false
+    (left-front a.steps.now.property a.rows.now a.span s a.stamp a.closed pre.usable pre.closes.0 is) c.if-output.false)
+    (holds-appended a.steps.now.property a.rows.now mid s 0 a.action a.stamp
+    (left a.steps.now.property a.rows.now a.span s a.stamp a.closed pre.usable pre.closes.0 is)
     (room a.span s a.closed is (pre.closes.2 c.if-output.false)) pre.closes.1 c.append.ensures)))

@@ -1,6 +1,5 @@
 -- `cuts::verdict` meets its contract: the last set is that of the last cut.
 use mathlib.Core.Path.{sym, ap, subst, ◌∙◌}
-use Rattle.meaning.specs.Node.{verdict_number}
 use Rattle.meaning.specs.Matcher.{Lengths}
 use Rattle.meaning.specs.Step.{lengths}
 use Rattle.meaning.proofs.Fronts.{last_set-first}
@@ -17,6 +16,6 @@ returns c =
     let cut = c.cut_at in
     λ p fit.
     c.verdict.ensures p (subst (Fits p) (sym cut.ensures) fit)
-    ∙ ap (λ (x : Cut). verdict_number (set_verdict p (set_of x))) cut.ensures
-    ∙ ap (λ (s : Lengths). verdict_number (set_verdict p s))
+    ∙ ap (λ (x : Cut). set_verdict p (set_of x)) cut.ensures
+    ∙ ap (λ (s : Lengths). set_verdict p s)
     (sym (last_set-first (meant p) (lengths (meant p)) (line_at a.rows.now a.span) (set_at a.rows.now a.span a.j) a.span.count))

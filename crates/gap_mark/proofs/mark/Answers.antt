@@ -1,33 +1,31 @@
 -- `gap_mark::mark` meets its contract: refused, or the run is closed and the session blind.
-use mathlib.Core.Path.{refl, sym}
-use native.Mathlib.Omega.{arith}
-use Rattle.meaning.specs.Calls.{Mark, Call}
-use Rattle.session_record.specs.Lent.{Memory, memory}
-use Rattle.session_record.proofs.Ready.{open_usable}
-use Rattle.answers.proofs.Advances.{refused_leads, marked-blind, marked_open}
+use Prim.Native.Nat.{ℕ}
+use mathlib.Core.Path.{◌≡◌, refl, sym}
+use mathlib.Core.Bool.{Bool, true, false}
+use mathlib.Core.List.{List}
+use Rattle.std.proofs.lemmas.Result.{err_from_is_err_and}
+use Rattle.meaning.specs.Calls.{Mark}
+use Rattle.meaning.specs.Calls
+use Rattle.session_record.specs.Loan.{memory_in}
+use Rattle.answers.proofs.Advances.{Leads, refused_leads, mark_leads}
 use Rattle.gap_mark.proofs.mark.Goals as goal
+use Rattle.gap_mark.proofs.mark.Goals.{After-blinded-reply}
 
-pub returns-then-number-ne0 : goal.returns-then-number-ne0
-returns-then-number-ne0 c =
-    let entry : Memory = memory c.args.p c.args.rows.now c.args.status in
-    let given : Mark = record { lost = c.args.lost; stamp = c.args.stamp } in
-    let call : Call = Call.mark given in
-    refused_leads entry c.requires call c.refused-number.result (sym c.refused-number.ensures) c.if-number-ne0.true c.unmoved.result c.unmoved.ensures
+pub returns-in_err-refused : goal.returns-in_err-refused
+returns-in_err-refused c =
+    let p = err_from_is_err_and c.from_residual.result c.from_residual.ensures.1 in
+    let lent = c.args.lent.now in
+    rw (p.1, p.2) (refused_leads (memory_in lent) lent.ready (Calls.mark_at c.args.lost c.args.stamp) c.in_err-refused.field-0.0 (sym c.in_err-refused.ensures))
 
-pub returns-then-clock : goal.returns-then-clock
-returns-then-clock c =
-    let entry : Memory = memory c.args.p c.args.rows.now c.args.status in
-    let given : Mark = record { lost = c.args.lost; stamp = c.args.stamp } in
-    let number = c.refused-number in
-    marked-blind entry c.requires c.args.lost c.args.stamp number.result number.ensures c.if-number-ne0.false c.marked-after.result (c.marked-after.ensures given refl)
-    c.if-clock.true c.blinded.result c.blinded.ensures
+marked : (c : After-blinded-reply) → Leads (memory_in c.args.lent.now) (Calls.mark_at c.args.lost c.args.stamp) c.args.lent.now.rows.now c.blinded-reply.result
+marked c =
+    let lent = c.args.lent.now in
+    mark_leads (memory_in lent) lent.ready c.args.lost c.args.stamp 0 c.in_ok-refused.ensures refl
+    c.marked.result (c.marked.ensures (record { lost = c.args.lost; stamp = c.args.stamp }) refl) c.standing-closing.result c.standing-closing.ensures
+    c.blinded-reply.result c.blinded-reply.ensures
+
+pub invariant_of-lent : goal.invariant_of-lent
+invariant_of-lent c = record { ready = (marked (goal.at.invariant_of-lent c).After-blinded-reply).ready }
 
 pub returns : goal.returns
-returns c =
-    let entry : Memory = memory c.args.p c.args.rows.now c.args.status in
-    let given : Mark = record { lost = c.args.lost; stamp = c.args.stamp } in
-    let number = c.refused-number in
-    let v = c.verdict-verdict in
-    marked_open entry c.requires c.args.lost c.args.stamp number.result number.ensures c.if-number-ne0.false c.marked-after.result (c.marked-after.ensures given refl)
-    c.if-clock.false
-    v.result (v.ensures c.args.p ((open_usable entry c.requires c.if-clock.false).fits c.args.status.span.count (omega arith))) c.blinded-2.result c.blinded-2.ensures
+returns c = marked (goal.at.returns c).After-blinded-reply

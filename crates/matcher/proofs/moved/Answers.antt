@@ -17,20 +17,20 @@ use Rattle.matcher.specs.Sets.{Arranged}
 pub step-free-requires : goal.step-free-requires
 step-free-requires c =
     let a = c.args in
-    let asks = step_asks a.p c.requires.0 a.table.now c.requires.1 a.output a.action c.row-at.result c.row-at.ensures
-    a.cut.mask (fits_parts a.p a.cut c.requires.2).0 in
+    let asks = step_asks a.steps.now.property c.args.steps.now.formed a.steps.now.table c.args.steps.now.made a.output a.action c.row-at.result c.row-at.ensures
+    a.cut.mask (fits_parts a.steps.now.property a.cut c.requires).0 in
     record { n_bound = asks.0; by_index = asks.1 }
 
 pub arranged-requires : goal.arranged-requires
-arranged-requires c = ((taken_bounds c.args.p c.requires.0).most, c.step-free.ensures.1, pow_pos (suc c.args.p.n))
+arranged-requires c = ((taken_bounds c.args.steps.now.property c.args.steps.now.formed).most, c.step-free.ensures.1, pow_pos (suc c.args.steps.now.property.n))
 
 pub returns-then-outside : goal.returns-then-outside
 returns-then-outside c =
     let a = c.args in
-    outside_moves a.p c.requires.0 a.table.now c.requires.1 a.output a.action c.row-at.result c.row-at.ensures a.cut c.requires.2
-    (sym (c.outside.ensures a.p refl) ∙ c.if-outside.true)
+    outside_moves a.steps.now.property c.args.steps.now.formed a.steps.now.table c.args.steps.now.made a.output a.action c.row-at.result c.row-at.ensures a.cut c.requires
+    (sym (c.outside.ensures a.steps.now.property refl) ∙ c.if-outside.true)
     c.step-free.ensures.0
-    (subst (λ (b : Bool). Arranged a.p.n c.step-free.result 0 (cond b 1 0) c.arranged.result)
+    (subst (λ (b : Bool). Arranged a.steps.now.property.n c.step-free.result 0 (cond b 1 0) c.arranged.result)
     (elim c.if-broken.branch [
       | then-broken w ↦
           let e = eq-eqb (a.cut.armed % 2) 1 w.if-broken.true in
@@ -42,47 +42,47 @@ returns-then-outside c =
 pub step-free-requires-then-output : goal.step-free-requires-then-output
 step-free-requires-then-output c =
     let a = c.args in
-    let armed-low = armed-lt a.p.n a.cut.armed (fits_parts a.p a.cut c.requires.2).1 in
-    let asks = step_asks a.p c.requires.0 a.table.now c.requires.1 a.output a.action c.row-at.result c.row-at.ensures
-    _ (or_lt (suc a.p.n) a.cut.mask (a.cut.armed / 2) (fits_parts a.p a.cut c.requires.2).0 armed-low) in
+    let armed-low = armed-lt a.steps.now.property.n a.cut.armed (fits_parts a.steps.now.property a.cut c.requires).1 in
+    let asks = step_asks a.steps.now.property c.args.steps.now.formed a.steps.now.table c.args.steps.now.made a.output a.action c.row-at.result c.row-at.ensures
+    _ (or_lt (suc a.steps.now.property.n) a.cut.mask (a.cut.armed / 2) (fits_parts a.steps.now.property a.cut c.requires).0 armed-low) in
     record { n_bound = asks.0; by_index = asks.1 }
 
 -- Here and below the bound is shown for 0 and for the armed lengths alike, so that what must fail does so by the set in `returns`.
 pub arranged-requires-then-output : goal.arranged-requires-then-output
 arranged-requires-then-output c =
     let a = c.args in
-    let armed-low = armed-lt a.p.n a.cut.armed (fits_parts a.p a.cut c.requires.2).1 in
-    ((taken_bounds a.p c.requires.0).most, c.step-free-then-output.ensures.1, omega (arith, armed-low, pow_pos (suc a.p.n)))
+    let armed-low = armed-lt a.steps.now.property.n a.cut.armed (fits_parts a.steps.now.property a.cut c.requires).1 in
+    ((taken_bounds a.steps.now.property c.args.steps.now.formed).most, c.step-free-then-output.ensures.1, omega (arith, armed-low, pow_pos (suc a.steps.now.property.n)))
 
 pub returns-then-output : goal.returns-then-output
 returns-then-output c =
     let a = c.args in
-    allowed_moves a.p c.requires.0 a.table.now c.requires.1 a.output a.action c.row-at.result c.row-at.ensures a.cut c.requires.2
+    allowed_moves a.steps.now.property c.args.steps.now.formed a.steps.now.table c.args.steps.now.made a.output a.action c.row-at.result c.row-at.ensures a.cut c.requires
     c.if-output.true
-    (sym (c.outside.ensures a.p refl) ∙ c.if-outside.false)
+    (sym (c.outside.ensures a.steps.now.property refl) ∙ c.if-outside.false)
     refl c.step-free-then-output.ensures.0 c.arranged-then-output.ensures
 
 pub step-free-requires-2 : goal.step-free-requires-2
 step-free-requires-2 c =
     let a = c.args in
-    let asks = step_asks a.p c.requires.0 a.table.now c.requires.1 a.output a.action c.row-at.result c.row-at.ensures
-    a.cut.mask (fits_parts a.p a.cut c.requires.2).0 in
+    let asks = step_asks a.steps.now.property c.args.steps.now.formed a.steps.now.table c.args.steps.now.made a.output a.action c.row-at.result c.row-at.ensures
+    a.cut.mask (fits_parts a.steps.now.property a.cut c.requires).0 in
     record { n_bound = asks.0; by_index = asks.1 }
 
 pub step-still-requires : goal.step-still-requires
 step-still-requires c =
     let a = c.args in
-    let armed-low = armed-lt a.p.n a.cut.armed (fits_parts a.p a.cut c.requires.2).1 in
-    let asks = step_asks a.p c.requires.0 a.table.now c.requires.1 a.output a.action c.row-at.result c.row-at.ensures
-    _ (omega (arith, armed-low, pow_pos (suc a.p.n))) in
+    let armed-low = armed-lt a.steps.now.property.n a.cut.armed (fits_parts a.steps.now.property a.cut c.requires).1 in
+    let asks = step_asks a.steps.now.property c.args.steps.now.formed a.steps.now.table c.args.steps.now.made a.output a.action c.row-at.result c.row-at.ensures
+    _ (omega (arith, armed-low, pow_pos (suc a.steps.now.property.n))) in
     record { n_bound = asks.0; by_index = asks.1 }
 
 pub arranged-requires-2 : goal.arranged-requires-2
 arranged-requires-2 c =
-    ((taken_bounds c.args.p c.requires.0).most, c.step-free-2.ensures.1, c.step-still.ensures.1)
+    ((taken_bounds c.args.steps.now.property c.args.steps.now.formed).most, c.step-free-2.ensures.1, c.step-still.ensures.1)
 
 pub returns : goal.returns
 returns c =
     let a = c.args in
-    input_moves a.p c.requires.0 a.table.now c.requires.1 a.output a.action c.row-at.result c.row-at.ensures a.cut c.requires.2
+    input_moves a.steps.now.property c.args.steps.now.formed a.steps.now.table c.args.steps.now.made a.output a.action c.row-at.result c.row-at.ensures a.cut c.requires
     c.if-output.false c.step-free-2.ensures.0 c.step-still.ensures.0 c.arranged-2.ensures

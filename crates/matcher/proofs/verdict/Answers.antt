@@ -10,7 +10,7 @@ use Rattle.laws.proofs.Bits.{bit-zero}
 use Rattle.matcher.proofs.Words.{verdict-read}
 use Rattle.matcher.proofs.Moving.{some_test}
 use Rattle.matcher.proofs.verdict.Goals as goal
-use Rattle.matcher.proofs.verdict.Goals.{Joined-cut-gt0, then-cut-gt0, else-cut-gt0}
+use Rattle.matcher.proofs.verdict.Goals.{then-cut-gt0-via-then-cut-gt0, then-cut-gt0-via-else-cut-gt0+then-cut-gt0-2}
 
 -- the last digit of the armed word is that of broken
 even : (m : ℕ) → m % 2 ≡ 0 → false ≡ bit m 0
@@ -30,24 +30,23 @@ returns-then-cut-eq0 c =
     let cut = c.args.cut in
     λ p h. verdict-read p cut h false (not (eqb cut.mask 0) || not (eqb (cut.armed / 2) 0)) (even cut.armed c.if-cut-eq0.true) refl
 
-some : (c : Joined-cut-gt0) → c.if-cut-gt0.value ≡ not (eqb c.args.cut.mask 0) || not (eqb (c.args.cut.armed / 2) 0)
-some c = elim c.if-cut-gt0.branch [
-  | then-cut-gt0 w ↦
-      w.value-is ∙ lt-ltb 0 c.args.cut.mask w.if-cut-gt0.true
-      ∙ ap (λ (b : Bool). b || not (eqb (c.args.cut.armed / 2) 0)) (there c.args.cut.mask w.if-cut-gt0.true)
-  | else-cut-gt0 w ↦
-      w.value-is ∙ some_test (c.args.cut.armed / 2)
-      ∙ ap (λ (b : Bool). b || not (eqb (c.args.cut.armed / 2) 0)) (not_there c.args.cut.mask w.if-cut-gt0.false)
-]
+some : (m a : ℕ) → 0 < m → true ≡ not (eqb m 0) || not (eqb (a / 2) 0)
+some m a h = ap (λ (b : Bool). b || not (eqb (a / 2) 0)) (there m h)
 
-pub returns-then-cut-gt0-2 : goal.returns-then-cut-gt0-2
-returns-then-cut-gt0-2 c =
+pub returns-then-cut-gt0 : goal.returns-then-cut-gt0
+returns-then-cut-gt0 c =
     let cut = c.args.cut in
     λ p h.
-    verdict-read p cut h true true (odd cut.armed c.if-cut-eq0.false) (sym c.if-cut-gt0-2.true ∙ some (goal.at.returns-then-cut-gt0-2 c).Joined-cut-gt0)
+    verdict-read p cut h true true (odd cut.armed c.if-cut-eq0.false)
+    (elim c.then-cut-gt0.branch [
+      | then-cut-gt0-via-then-cut-gt0 w ↦ some cut.mask cut.armed w.if-cut-gt0.true
+      | then-cut-gt0-via-else-cut-gt0+then-cut-gt0-2 w ↦
+          there (cut.armed / 2) w.if-cut-gt0-2.true ∙ ap (λ (b : Bool). b || not (eqb (cut.armed / 2) 0)) (not_there cut.mask w.if-cut-gt0.false)
+    ])
 
-pub returns-else-cut-gt0-2 : goal.returns-else-cut-gt0-2
-returns-else-cut-gt0-2 c =
+pub returns : goal.returns
+returns c =
     let cut = c.args.cut in
     λ p h.
-    verdict-read p cut h true false (odd cut.armed c.if-cut-eq0.false) (sym c.if-cut-gt0-2.false ∙ some (goal.at.returns-else-cut-gt0-2 c).Joined-cut-gt0)
+    verdict-read p cut h true false (odd cut.armed c.if-cut-eq0.false)
+    (not_there (cut.armed / 2) c.if-cut-gt0-2.false ∙ ap (λ (b : Bool). b || not (eqb (cut.armed / 2) 0)) (not_there cut.mask c.if-cut-gt0.false))

@@ -4,7 +4,7 @@ use Rattle.meaning.specs.Calls.{Call}
 use Rattle.record_form.specs.declared.RecordRead.{RecordRead}
 use Rattle.trace_form.specs.ReadAs.{ReadAs, case_as}
 use Rattle.held.specs.declared.Status.{Status}
-use Rattle.session_record.specs.declared.Answer.{Answer}
+use Rattle.session_record.specs.Step.{Answer}
 use Rattle.session_record.specs.declared.Reply.{Reply}
 use Rattle.session_record.specs.Lent.{Memory, memory, Advanced}
 use Rattle.one_record.specs.Takes.{Takes}

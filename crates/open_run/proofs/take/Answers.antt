@@ -2,7 +2,7 @@
 use mathlib.Core.Path.{◌≡◌, refl, sym, subst, ◌∙◌}
 use Rattle.record_form.specs.declared.RecordRead.{RecordRead}
 use Rattle.trace_form.specs.ReadAs.{case_as}
-use Rattle.session_record.specs.declared.Answer.{Answer}
+use Rattle.session_record.specs.Step.{Answer}
 use Rattle.session_record.specs.Lent.{Memory, memory, Ready}
 use Rattle.one_record.specs.Takes.{Takes}
 use Rattle.open_run.specs.declared.Outcome.{Outcome}

@@ -6,7 +6,7 @@ use native.Mathlib.Omega.{arith}
 use native.Mathlib.Numerals.{add-one}
 use Rattle.property_form.specs.declared.PropertyRead.{PropertyRead}
 use Rattle.session_record.specs.declared.Session.{Session}
-use Rattle.session_record.specs.declared.Stepped.{Stepped}
+use Rattle.session_record.specs.Step.{Stepping}
 use Rattle.session_record.specs.Step.{fresh_of}
 use Rattle.walk.specs.declared.Walked.{Walked}
 use Rattle.walk.specs.Walk.{Walking, in_numbers, walk_of}
@@ -32,5 +32,5 @@ returns c =
     let done : c.loop.counter ≡ c.args.times = omega arith in
     c.loop.invariant
     ∙ ap (last_taken c.fresh-fresh.result.session c.args.trace.now c.args.budget) done
-    ∙ ap (λ (r : Stepped). last_taken r.session c.args.trace.now c.args.budget c.args.times) c.fresh-fresh.ensures
+    ∙ ap (λ (r : Stepping). last_taken r.session c.args.trace.now c.args.budget c.args.times) c.fresh-fresh.ensures
     ∙ ap (λ (r : PropertyRead). last_taken (fresh_of r.property).session c.args.trace.now c.args.budget c.args.times) c.read_property-read.ensures

@@ -3,11 +3,11 @@ use Prim.Native.Nat.{ℕ, ◌+◌, ◌-◌, ◌≤◌, ◌<◌}
 use mathlib.Core.Path.{◌≡◌, refl, ap, subst, ◌∙◌}
 use mathlib.Core.Bool.{Bool, false, cond}
 use native.Mathlib.Omega.{arith}
-use Rattle.meaning.specs.Node.{verdict_number}
+use Rattle.meaning.specs.Node.{Verdict, verdict_number}
 use Rattle.meaning.specs.Matcher.{Lengths}
 use Rattle.meaning.specs.Step.{Front}
 use Rattle.cuts.specs.Steps.{line_of, front_after, front_says}
-use Rattle.cuts.specs.Fronts.{front_of}
+use Rattle.cuts.specs.Fronts.{front_of, Holds}
 use Rattle.cuts.proofs.Lines.{holds-count}
 use Rattle.run_line.proofs.run_on.Goals as goal
 
@@ -20,20 +20,21 @@ take_line-left-requires c =
     let h = c.requires.closes in
     record {
       usable = c.requires.usable;
-      closes = (h.0, h.1, λ e. room (c.args.span.count - c.args.closed) c.args.output e h.2);
+      closes = (h.0, h.1, λ e. room (c.args.span.count - c.args.closed) c.args.line.output e h.2);
     }
 
 pub returns : goal.returns
 returns c =
     let a = c.args in
+    let p = a.steps.now.property in
     let r = c.take_line-left in
-    let v = c.verdict-verdict in
-    let f = front_after a.p (front_of a.rows.now a.span 0) (line_of a.output a.action a.stamp) in
-    let told : v.result ≡ verdict_number (front_says a.p f) =
-    v.ensures a.p (r.ensures.usable.fits r.result.count (omega arith)) ∙ ap (λ (g : Front Lengths). verdict_number (front_says a.p g)) r.ensures.front in
-    let count = holds-count a.p f r.new.rows r.result 0 r.ensures in
+    let f = front_after p (front_of a.rows.now a.span 0) (line_of a.line.output a.line.action a.line.stamp) in
+    let held : Holds p f r.new.rows r.result 0 =
+    subst (λ (n : ℕ). Holds p (front_after p (front_of a.rows.now a.span 0) (line_of a.line.output n a.line.stamp)) r.new.rows r.result 0) c.from.ensures r.ensures in
+    let told = c.verdict.ensures p (held.usable.fits r.result.count (omega arith)) ∙ ap (front_says p) held.front in
+    let count = holds-count p f r.new.rows r.result 0 held in
     record {
-      holds = r.ensures;
-      answered = c.taken.ensures ∙ (λ i. record { refusal = 0; verdict = told i; open_count = count i });
+      holds = held;
+      answered = λ i. record { refusal = 0; verdict = verdict_number (told i); open_count = count i };
       clocked = refl;
     }

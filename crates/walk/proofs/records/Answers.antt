@@ -7,7 +7,7 @@ use lib.ListN.{length, take, drop}
 use Rattle.record_form.specs.declared.RecordRead.{RecordRead}
 use Rattle.record_form.specs.Record.{IsRead}
 use Rattle.trace_form.specs.ReadAs.{case_as}
-use Rattle.session_record.specs.declared.Answer.{Answer}
+use Rattle.session_record.specs.Step.{Answer}
 use Rattle.session_record.specs.Record.{latest_of}
 use Rattle.session_record.specs.Lent.{Memory, memory, record_in}
 use Rattle.one_record.specs.Takes.{Takes}
