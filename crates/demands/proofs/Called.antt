@@ -103,8 +103,8 @@ verdicts_called = (refl, refl, refl, refl)
 
 -- what is taken has refusal 0, and "a refusal carries 0 in all other numbers": of the calls that can only be refused, `property::refused`,
 -- `names::refused`, `name_list::refused` and `write_record`;
-pub refused_called : (r : Refusal) → (refusal_in (Ok tt) ≡ 0) × (refusal_in {A = Unit {0}} (Err r) ≡ refusal_number r)
-refused_called r = (refl, refl)
+pub refused_called : {A : Type 0} (x : A) (r : Refusal) → (refusal_in (Ok x) ≡ 0) × (refusal_in {A = A} (Err r) ≡ refusal_number r)
+refused_called x r = (refl, refl)
 
 -- of `fresh`, `line` and `mark`, and of `kept::step`;
 pub answer_called : (told : Told) (r : Refusal)
