@@ -45,11 +45,3 @@ loop-init c = none-taken _ _ _
 
 pub loop-preserved : goal.loop-preserved
 loop-preserved c = one-taken _ _ _ _ c.walk-taken.result c.walk-taken.ensures
-
-pub returns : goal.returns
-returns c =
-    let done : c.loop.counter ≡ c.args.times = omega arith in
-    c.loop.invariant
-    ∙ ap (last_taken c.fresh.result.session c.args.trace.now c.args.budget) done
-    ∙ ap (λ (r : Stepping). last_taken r.session c.args.trace.now c.args.budget c.args.times) c.fresh.ensures
-    ∙ ap (λ (r : PropertyRead). last_taken (fresh_of r.property).session c.args.trace.now c.args.budget c.args.times) c.in-Ok.ensures
