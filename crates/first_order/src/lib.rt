@@ -80,6 +80,7 @@ fn choice(
     }
     let then = with_line(steps, from, true, action[y], y);
     let end = judged_rest::judge(steps, output, action, stamp, then);
+    // Behind a refusal the number told is 0, that of clear.
     let verdict = end.map_or(Verdict::Clear, |reason| reason.verdict);
     if reaches(breaking, verdict) { y } else { x }
 }

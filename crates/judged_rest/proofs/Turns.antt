@@ -83,7 +83,7 @@ judged-next p ls from k m before after told own e t =
     ∙ ap (judged p ls from) (let z : suc k ≡ k + 1 = omega arith in z)
 
 -- and behind a refusal nothing is judged.
-judged-stays : (p : Property) (ls : Lines) (from : Reached) (k : ℕ) → ((judged p ls from k).told.refusal ≡ 0 → ⊥)
+pub judged-stays : (p : Property) (ls : Lines) (from : Reached) (k : ℕ) → ((judged p ls from k).told.refusal ≡ 0 → ⊥)
     → (n : ℕ) → k ≤ n → judged p ls from n ≡ judged p ls from k
 unfolding judged turned
 judged-stays p ls from k h zero l = ap (judged p ls from) (let z : zero ≡ k = omega arith in z)

@@ -1,17 +1,17 @@
 -- What a record adds to the listing, by what it is read as and what it does to the session.
-use Rattle.std.proofs.Common.{◌≡◌, ℕ, zero, suc, Bool, true, false, cond, List, sym, refl, ap, ◌∙◌, arith}
+use Rattle.std.proofs.Common.{◌≡◌, ℕ, zero, suc, Bool, true, false, cond, List, sym, refl, ap, ◌∙◌}
 use Rattle.meaning.specs.Calls.{Call}
 use Rattle.record_form.specs.Record.{Reader, ReadBy, RecordRead, gap}
 use Rattle.trace_form.specs.ReadAs.{ReadAs, read_as, case_as}
 use Rattle.trace_form.proofs.ReadAs.{read-case}
 use Rattle.session_record.specs.declared.Session.{Session}
-use Rattle.session_record.specs.Step.{Answer, Stepping, stepped_of}
+use Rattle.session_record.specs.Step.{stepped_of}
 use Rattle.session_record.specs.Record.{latest_of, out_of_range}
 use Rattle.session_record.specs.Lent.{Memory, record_in}
-use Rattle.session_record.proofs.Steps.{answer-refusal, step_refused}
 use Rattle.one_record.specs.Doing.{Doing, by_answer, doing_of, session_after}
 use Rattle.one_record.specs.Takes.{Takes}
 use Rattle.walk.specs.Walk.{One, one_call, one_read}
+use Rattle.walk.proofs.Dids.{refused_stays}
 use Rattle.printout.specs.Text.{line_text, end_text, stop_text}
 use Rattle.printed.specs.declared.Printed.{Printed}
 use Rattle.printed.specs.declared.lent.Added.{Added}
@@ -43,10 +43,6 @@ read-adds reader m count bytes e h a =
     not_named reader (record_in m) count bytes e ∙ ap (λ (x : ReadAs). by_one (record_in m) count (one_read (record_in m) x)) (read-case h) ∙ a.listed
 
 -- ---- a record
-
--- what a refused call leaves: the session as it was
-refused_stays : (s : Session) (c : Call) (n : ℕ) → (stepped_of s c).answer.refusal ≡ suc n → (stepped_of s c).session ≡ s
-refused_stays s c n e = ap (λ (r : Stepping). r.session) (step_refused s c (suc n) (sym (answer-refusal s c) ∙ e) (λ z. omega arith))
 
 -- The line of a call that was taken shows what its answer told.
 answer_shown : (s : Session) (number : ℕ) (c : Call) → (stepped_of s c).answer.refusal ≡ 0

@@ -53,10 +53,20 @@ fn adds(did: Result<Did, Refusal>, count: u64) -> Added
     match did {
         Ok(Did::Line(line, told)) => {
             let verdict = u64::from(told.verdict);
-            let text = printout::line(number, u8::from(line.output), line.action, line.stamp, verdict, told.open_count);
+            let text = printout::line(
+                number,
+                u8::from(line.output),
+                line.action,
+                line.stamp,
+                verdict,
+                told.open_count,
+            );
             next(number, text)
         }
-        Ok(Did::Gap(lost, stamp, _)) => next(number, printout::line(number, 2, lost, stamp, u64::from(Verdict::Blind), 0)),
+        Ok(Did::Gap(lost, stamp, _)) => next(
+            number,
+            printout::line(number, 2, lost, stamp, u64::from(Verdict::Blind), 0),
+        ),
         Ok(Did::Ended) => last(count, printout::end(count)),
         Err(refusal) => last(count, printout::stop(count, u64::from(refusal))),
     }

@@ -3,7 +3,6 @@ use Prim.Native.Nat.{ℕ, ◌+◌}
 use mathlib.Core.Path.{◌≡◌, refl, sym, ap, subst, ◌∙◌}
 use native.Mathlib.Omega.{arith}
 use lib.ListN.{length, replicate}
-use Rattle.std.specs.Prelude.{Ok, Err}
 use Rattle.std.proofs.lemmas.Result.{err_from_is_err_and}
 use Rattle.meaning.specs.Node.{verdict_number}
 use Rattle.outcomes.specs.Numbers.{number_told}
@@ -41,18 +40,16 @@ loop-k-init c = record { so_far = (begun (goal.at.loop-k-init c).After-verdict).
 pub returns-in_err-reason : goal.returns-in_err-reason
 returns-in_err-reason c =
     let p = err_from_is_err_and c.from_residual.result c.from_residual.ensures.1 in
-    let k = c.loop-k.k in
-    rw (p.1, p.2)
-    (judged-refused c.args.steps.now.property _ c.args.from (k + 1) _ (omega arith) _
-    (ap (λ (j : Judged). j.told)
-    (judged-next c.args.steps.now.property _ c.args.from k (memory_in c.loop-k.lent) _ (memory_in c.turn.new.lent) _ c.loop-k.invariant.own c.loop-k.invariant.so_far c.in_err-reason.ensures)))
+    let l = c.loop-k.invariant in
+    let next = judged-next _ _ _ c.loop-k.k (memory_in c.loop-k.lent) _ (memory_in c.turn.new.lent) _ l.own l.so_far c.in_err-reason.ensures in
+    rw (p.1, p.2) (judged-refused _ _ _ (c.loop-k.k + 1) _ (omega arith) _ (ap (λ (j : Judged). j.told) next))
 
 pub loop-k-preserved : goal.loop-k-preserved
 loop-k-preserved c =
-    let k = c.loop-k.k in
+    let l = c.loop-k.invariant in
     record {
-      so_far = judged-next c.args.steps.now.property _ c.args.from k (memory_in c.loop-k.lent) _ (memory_in c.turn.new.lent) _ c.loop-k.invariant.own c.loop-k.invariant.so_far c.in_ok-reason.ensures;
-      own = c.turn.ensures.own ∙ c.loop-k.invariant.own;
+      so_far = judged-next _ _ _ c.loop-k.k (memory_in c.loop-k.lent) _ (memory_in c.turn.new.lent) _ l.own l.so_far c.in_ok-reason.ensures;
+      own = c.turn.ensures.own ∙ l.own;
     }
 
 pub returns : goal.returns

@@ -55,8 +55,8 @@ returns c =
     let s = c.args.s in
     let r = c.record-added.result in
     by_value s fits c.args.count c.args.bytes.now r (after k) (adds k fits) c.if-added.result (
-      elim c.if-added.branch [
-        | then-added w ↦ w.result-is ∙ w.made.ensures ∙ ap (λ (b : Bool). cond b (record_in (after k)) s) (sym w.if-added.true)
-        | else-added w ↦ w.result-is ∙ ap (λ (b : Bool). cond b (record_in (after k)) s) (sym w.if-added.false)
-      ]
+    elim c.if-added.branch [
+      | then-added w ↦ w.result-is ∙ w.made.ensures ∙ ap (λ (b : Bool). cond b (record_in (after k)) s) (sym w.if-added.true)
+      | else-added w ↦ w.result-is ∙ ap (λ (b : Bool). cond b (record_in (after k)) s) (sym w.if-added.false)
+    ]
     )

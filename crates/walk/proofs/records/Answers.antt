@@ -24,12 +24,12 @@ loop-taken-preserved c =
     let at = c.loop-taken.at in
     let bytes = c.args.trace.now in
     elim c.match-did.branch [
-      in-Line w ↦
-        rw w.lost-is (going_took c.loop-taken.invariant _ _ (memory_in c.take.new.lent) c.loop-taken-test.true
-        (record-turned bytes at c.read_record-read.ensures (known c.in-Ok.ensures w.in-Line.is)))
+      | in-Line w ↦
+          rw w.lost-is (going_took c.loop-taken.invariant _ _ (memory_in c.take.new.lent) c.loop-taken-test.true
+          (record-turned bytes at c.read_record-read.ensures (known c.in-Ok.ensures w.in-Line.is)))
       | in-Gap w ↦
-        rw w.lost-is (going_took c.loop-taken.invariant _ _ (memory_in c.take.new.lent) c.loop-taken-test.true
-        (record-turned bytes at c.read_record-read.ensures (known c.in-Ok.ensures w.in-Gap.is)))
+          rw w.lost-is (going_took c.loop-taken.invariant _ _ (memory_in c.take.new.lent) c.loop-taken-test.true
+          (record-turned bytes at c.read_record-read.ensures (known c.in-Ok.ensures w.in-Gap.is)))
     ]
 
 pub returns-in-Ended : goal.returns-in-Ended
