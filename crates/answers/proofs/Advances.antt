@@ -3,7 +3,7 @@ use Prim.Native.Nat.{ℕ, ◌+◌, ◌-◌, ◌≤◌, ◌<◌}
 use mathlib.Core.Path.{◌≡◌, refl, sym, ◌∙◌, ap, subst}
 use mathlib.Core.Bool.{Bool, true, false, cond}
 use mathlib.Core.List.{List, []}
-use Rattle.std.specs.Prelude.{Result, Ok, Err}
+use Rattle.std.specs.Prelude.{Ok, Err}
 use native.Mathlib.Nat.{add-zero}
 use lib.ListN.{length}
 use lib.Dec.{ltb}
@@ -24,7 +24,7 @@ use Rattle.rows.proofs.Rows.{room-none}
 use Rattle.clock.specs.declared.Clock.{Clock}
 use Rattle.clock.specs.Time.{clock_of, stored_clock}
 use Rattle.held.specs.Held.{Closes}
-use Rattle.cuts.specs.Steps.{line_of, front_after, front_fresh, front_none, front_says, verdict_by, refusal_by, told_by, says}
+use Rattle.cuts.specs.Steps.{line_of, front_after, front_fresh, front_none, verdict_by, refusal_by, told_by, says}
 use Rattle.cuts.specs.Fronts.{with_cut, front_of, Holds}
 use Rattle.cuts.proofs.Lines.{open_at-output, open_at-input, holds-one}
 use Rattle.outcomes.specs.Numbers.{refusal_number, verdict_meant}

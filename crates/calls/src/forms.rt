@@ -1,13 +1,15 @@
 // The calls that have nothing to do with a session: the judge, names, the packed forms and the refusal of a property.
 ghost use Rattle.std.specs.Prelude.{◌≤◌};
 
-use record_form::RecordRead;
+use crate::numbers;
+use crate::numbers::Answer;
+use outcomes::Refusal;
+use record_form::Record;
 use script::arguments::Arguments;
 use script::properties;
 use script::properties::PropertyText;
 use script::text::{Hex, Rest};
-use std::fmt::{Display, Formatter};
-use std::{fmt, io};
+use std::io;
 
 // A buffer to write in has so many bytes at most.
 const BUFFER: usize = 512;
@@ -31,53 +33,42 @@ pub fn judge(rt: &impl Print, arguments: &mut Arguments<'_>) -> io::Result<()> {
     let property = arguments.string();
     let trace = arguments.string();
     let judged = stretch::judge(property, trace);
+    let answer = Answer(judged.map(|judged| [u64::from(judged.verdict), judged.count as u64]));
     let number = stretch::anthegyra_stretch_judge(property, trace);
-    println!(rt;
-        "J {} {} {} {number}",
-        judged.refusal, judged.verdict, judged.count
-    )
+    println!(rt; "J {answer} {number}")
 }
 
 pub fn read_property(rt: &impl Print, arguments: &mut Arguments<'_>) -> io::Result<()> {
     let form = arguments.string();
     let read = property_form::read_property(form);
+    let answer = numbers::refusal(read.map(|_| ()));
     let rest = Rest(property_form::property_rest(form));
-    println!(rt; "P {} {rest}", read.refusal)?;
-    rt.print(PropertyText(&read.property))
+    println!(rt; "P {answer} {rest}")?;
+    rt.print(PropertyText(&read.unwrap_or(property::none())))
 }
 
 pub fn write_property(rt: &impl Print, arguments: &mut Arguments<'_>) -> io::Result<()> {
     let property = properties::read(arguments);
     let Buffer { mut bytes, len } = buffer_of(arguments.string());
     let written = property_form::write_property(property, &mut bytes[..len]);
-    println!(rt;
-        "Q {} {} {}",
-        written.refusal,
-        written.size,
-        Hex(&bytes[..len])
-    )
+    let answer = Answer(written.map(|size| [size as u64]));
+    println!(rt; "Q {answer} {}", Hex(&bytes[..len]))
 }
 
 // What a record reader answered: refusal, kind, action (of a gap its number of lost lines), stamp.
-#[derive(Clone, Copy)]
-struct ReadText(RecordRead);
-
-impl Display for ReadText {
-    fn fmt<W: fmt::Write>(&self, f: &mut Formatter<W>) -> fmt::Result {
-        match self.0 {
-            RecordRead::Input(action, stamp) => write!(f, "0 0 {action} {stamp}"),
-            RecordRead::Output(action, stamp) => write!(f, "0 1 {action} {stamp}"),
-            RecordRead::Gap(lost, stamp) => write!(f, "0 2 {lost} {stamp}"),
-            RecordRead::End(stamp) => write!(f, "0 3 0 {stamp}"),
-            RecordRead::Refused(number) => write!(f, "{number} 0 0 0"),
-        }
-    }
+fn read_answer(read: Result<Record, Refusal>) -> Answer<3> {
+    Answer(read.map(|record| match record {
+        Record::Input(action, stamp) => [0, u64::from(action), stamp],
+        Record::Output(action, stamp) => [1, u64::from(action), stamp],
+        Record::Gap(lost, stamp) => [2, u64::from(lost), stamp],
+        Record::End(stamp) => [3, 0, stamp],
+    }))
 }
 
 pub fn read_record(rt: &impl Print, arguments: &mut Arguments<'_>) -> io::Result<()> {
     let before = arguments.word();
     let form = arguments.string();
-    let read = ReadText(record_form::read_record(form, before));
+    let read = read_answer(record_form::read_record(form, before));
     let rest = Rest(record_form::record_rest(form, before));
     println!(rt; "R {read} {rest}")
 }
@@ -86,7 +77,7 @@ pub fn read_record(rt: &impl Print, arguments: &mut Arguments<'_>) -> io::Result
 pub fn read_tap(rt: &impl Print, arguments: &mut Arguments<'_>) -> io::Result<()> {
     let before = arguments.word();
     let form = arguments.string();
-    let read = ReadText(tap_form::read_tap(form, before));
+    let read = read_answer(tap_form::read_tap(form, before));
     let rest = Rest(tap_form::tap_rest(form, before));
     println!(rt; "K {read} {rest}")
 }
@@ -97,12 +88,13 @@ pub fn write_record(rt: &impl Print, arguments: &mut Arguments<'_>) -> io::Resul
     let stamp = arguments.word();
     let before = arguments.word();
     let Buffer { mut bytes, len } = buffer_of(arguments.string());
-    let refusal = record_form::write_record(kind, action, stamp, before, &mut bytes[..len]);
+    let written = record_form::write_record(kind, action, stamp, before, &mut bytes[..len]);
+    let refusal = numbers::refusal(written);
     println!(rt; "S {refusal} {}", Hex(&bytes[..len]))
 }
 
 pub fn refused(rt: &impl Print, arguments: &mut Arguments<'_>) -> io::Result<()> {
-    let refusal = property::refused(properties::read(arguments));
+    let refusal = numbers::refusal(property::refused(properties::read(arguments)));
     println!(rt; "V {refusal}")
 }
 
@@ -112,7 +104,7 @@ pub fn name_of(rt: &impl Print, arguments: &mut Arguments<'_>) -> io::Result<()>
     let action = arguments.byte();
     let site = arguments.string();
     let release = arguments.string();
-    let refusal = names::refused(site, release, output, action);
+    let refusal = numbers::refusal(names::refused(site, release, output, action));
     let name = Hex(names::name(site, release, output, action));
     println!(rt; "N {refusal} {name}")
 }

@@ -5,6 +5,7 @@
 ghost use Rattle.std.specs.Prelude.{◌≤◌, length, IfOk};
 
 mod forms;
+mod numbers;
 mod orders;
 mod sessions;
 mod steps;

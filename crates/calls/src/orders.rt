@@ -1,6 +1,7 @@
 // The orders of a run: `why::explain` and the four lists that it is lent.
 ghost use Rattle.std.specs.Prelude.{◌≤◌};
 
+use crate::numbers::Answer;
 use script::arguments::Arguments;
 use script::lines::MOST;
 use script::text::Numbers;
@@ -36,7 +37,8 @@ pub fn explain(rt: &impl Print, arguments: &mut Arguments<'_>) -> io::Result<()>
         &mut numbers2[..c],
         &mut moments2[..d],
     );
-    println!(rt; "Y {} {} {}", reason.refusal, reason.verdict, reason.line)?;
+    let answer = Answer(reason.map(|reason| [u64::from(reason.verdict), reason.line]));
+    println!(rt; "Y {answer}")?;
     println!(rt; "numbers{}", Numbers(&numbers[..a]))?;
     println!(rt; "moments{}", Numbers(&moments[..b]))?;
     println!(rt; "numbers2{}", Numbers(&numbers2[..c]))?;

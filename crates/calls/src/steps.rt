@@ -1,4 +1,5 @@
 // The calls on the session, which keep the one that they leave.
+use crate::numbers::Answer;
 use crate::sessions;
 use crate::sessions::SessionText;
 use script::arguments::Arguments;
@@ -10,12 +11,13 @@ use walk::Stop;
 
 // The answer to fresh, line and mark.
 fn keep(rt: &impl Print, name: char, stepped: Stepped, session: &mut Session) -> io::Result<()> {
-    let answer = stepped.answer;
+    let answer = Answer(
+        stepped
+            .answer
+            .map(|told| [u64::from(told.verdict), told.open_count]),
+    );
     *session = stepped.session;
-    println!(rt;
-        "{name} {} {} {}",
-        answer.refusal, answer.verdict, answer.open_count
-    )?;
+    println!(rt; "{name} {answer}")?;
     rt.print(SessionText(session))
 }
 
@@ -59,7 +61,7 @@ fn stop_numbers(stop: Stop) -> (u64, u64) {
     match stop {
         Stop::Budget => (0, 0),
         Stop::End => (1, 0),
-        Stop::Refused(refusal) => (2, refusal),
+        Stop::Refused(refusal) => (2, u64::from(refusal)),
     }
 }
 

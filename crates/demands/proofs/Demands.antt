@@ -85,7 +85,8 @@ pub use Rattle.demands.proofs.Lost.{gap-read, gap-number, gap-written, demand_1_
 -- A walk that has used its budget up has not looked further.
 pub use Rattle.demands.proofs.Walks.{budget_spent}
 -- What is called, and what the session record holds after any calls.
-pub use Rattle.demands.proofs.Called.{kinds, own_call, line_called, mark_called, event_called, property_called, lines_called, name_called, record_called, stop_called, walk_called, zeros_called, version_called}
+pub use Rattle.demands.proofs.Called.{kinds, own_call, line_called, mark_called, event_called, property_called, lines_called, name_called, refusals_called, verdicts_called, refused_called}
+pub use Rattle.demands.proofs.Called.{answer_called, stepped_called, read_called, record_called, stop_called, walk_called, judged_called, reason_called, zeros_called, version_called}
 pub use Rattle.demands.proofs.Held.{running_holds, demand_10}
 -- A record may start at any place of its ring (document 02, CR 9): two that say the same have the same answers, to calls and to walks.
 pub use Rattle.demands.proofs.Ring.{demand_ring, ring_walk}

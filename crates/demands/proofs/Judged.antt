@@ -21,9 +21,7 @@ use Rattle.trace_form.proofs.ReadAs.{always_read, read_whole}
 use Rattle.session_record.specs.declared.Session.{Session}
 use Rattle.session_record.specs.Record.{latest_of}
 use Rattle.session_record.specs.Step.{stepped_of, stepped_through}
-use Rattle.walk.specs.declared.Stop.{Stop}
-use Rattle.walk.specs.declared.Stop.TheVariants.{Budget, End, Refused}
-use Rattle.walk.specs.Walk.{Walk, stop_number, stop_refusal, one_call, one_read, stopped, one_more, walked_by, walk_on, walk_answer}
+use Rattle.walk.specs.Walk.{Stopping, Walk, stop_number, stop_refusal, one_call, one_read, stopped, one_more, walked_by, walk_on, walk_answer}
 use Rattle.stretch.specs.Judge.{by_stop}
 use Rattle.demands.specs.Traces.{calls_of, BeginsWith, behind, TakenOneByOne, StopsBy, met, first_met}
 use Rattle.demands.proofs.Running.{running, seen, running_latest, running_number, running_next, seen-taken}
@@ -61,12 +59,12 @@ pub record TakenWhole (s : Session) (bytes : List ℕ) (w : Walk) : Type 0 where
   pub session : w.session ≡ stepped_through s (calls_of entries)
 
 -- a walk that stopped at an end record with nothing behind it
-pub whole_trace : (n : ℕ) (s : Session) (bytes : List ℕ) (w : Walk) → walk_on n s bytes ≡ w → w.stop ≡ End → length bytes ≤ w.read → TakenWhole s bytes w
+pub whole_trace : (n : ℕ) (s : Session) (bytes : List ℕ) (w : Walk) → walk_on n s bytes ≡ w → w.stop ≡ Stopping.at_end → length bytes ≤ w.read → TakenWhole s bytes w
 whole_trace n s bytes w e stop all = go (subst (λ (x : Walk). WalkedOver s bytes n (walk_answer bytes x)) e (walked-over n s bytes))
   where
     go : WalkedOver s bytes n (walk_answer bytes w) → TakenWhole s bytes w
     go h =
-        let st = subst (λ (x : Stop). StopsBy (stop_number x) (n - w.taken) w.session (behind h.entries bytes) (stop_refusal x) h.more) stop h.stops in
+        let st = subst (λ (x : Stopping). StopsBy (stop_number x) (n - w.taken) w.session (behind h.entries bytes) (stop_refusal x) h.more) stop h.stops in
         let end = subst (λ (x : Session). record_answer (behind h.entries bytes) (latest_of x) ≡ Record.taken Record.end 0 (latest_of x)) h.session st.1 in
         let read : w.read ≡ record_size * w.taken + h.more = h.read in
         let more : h.more ≡ 6 = st.3 in
@@ -99,13 +97,13 @@ module _ (p : Property) (good : property_refusal (meant p) ≡ 0) where
           by true t f = lt-ltb (record_size + w.read) (length bytes) (omega (arith, t refl, length-drop record_size bytes))
           by false t f = le-ltb (record_size + w.read) (length bytes) (omega (arith, f refl, length-drop record_size bytes))
 
-      go : (stop : Stop) (a b : Bool) → a ≡ b → (by_stop stop a (one_more w)).refusal ≡ (by_stop stop b w).refusal
-      go Budget a b e = unfold by_stop in refl
-      go (Refused n) a b e = unfold by_stop in refl
-      go End true true e = unfold by_stop in refl
-      go End true false e = unfold by_stop in (ap (λ (t : Bool). cond t 8 0) e)
-      go End false true e = unfold by_stop in (ap (λ (t : Bool). cond t 8 0) e)
-      go End false false e = unfold by_stop in refl
+      go : (stop : Stopping) (a b : Bool) → a ≡ b → (by_stop stop a (one_more w)).refusal ≡ (by_stop stop b w).refusal
+      go Stopping.at_budget a b e = unfold by_stop in refl
+      go (Stopping.at_refusal n) a b e = unfold by_stop in refl
+      go Stopping.at_end true true e = unfold by_stop in refl
+      go Stopping.at_end true false e = unfold by_stop in (ap (λ (t : Bool). cond t 8 0) e)
+      go Stopping.at_end false true e = unfold by_stop in (ap (λ (t : Bool). cond t 8 0) e)
+      go Stopping.at_end false false e = unfold by_stop in refl
 
   pub judged-first : (n : ℕ) (calls : List Call) (bytes : List ℕ) → judged bytes (walk_on n (running p good calls) bytes) ≡ first_met n (meant p) (seen p good calls) bytes
   unfolding walk_on first_met
@@ -140,7 +138,7 @@ module _ (p : Property) (good : property_refusal (meant p) ≡ 0) where
       whole : (e : Entry) → record_answer bytes (latest_of s) ≡ Record.taken (kind_of e) (action_of e) (stamp_of e) → record_size ≤ length bytes
       whole e q = read_whole (always_read bytes (latest_of s)) (ap (λ a. a.refusal) ((always_read bytes (latest_of s)).in_numbers ∙ q))
 
-      at_the_end : (b : Bool) → (by_stop End b (stopped s End record_size)).refusal ≡ given 8 b
+      at_the_end : (b : Bool) → (by_stop Stopping.at_end b (stopped s Stopping.at_end record_size)).refusal ≡ given 8 b
       at_the_end true = unfold by_stop in refl
       at_the_end false = unfold by_stop in refl
 

@@ -27,11 +27,8 @@ use Rattle.session_record.specs.Record.{latest_of, record_of}
 use Rattle.session_record.specs.Step.{standing, stepped_through}
 use Rattle.session_record.proofs.Running.{fresh_record}
 use Rattle.cuts.specs.Steps.{fresh_by}
-use Rattle.walk.specs.declared.Stop.{Stop}
-use Rattle.walk.specs.declared.Stop.TheVariants.{Budget, End, Refused}
-use Rattle.walk.specs.Walk.{Walk, stop_number, stop_refusal, walk_on, walk_answer}
-use Rattle.stretch.specs.declared.Judged.{Judged}
-use Rattle.stretch.specs.Judge.{refused, by_stop, walked, trace_judged, by_property, judge_of, one_number}
+use Rattle.walk.specs.Walk.{Stopping, Walk, stop_number, stop_refusal, walk_on, walk_answer}
+use Rattle.stretch.specs.Judge.{Judging, refused, by_stop, walked, trace_judged, by_property, judge_of, one_number}
 use Rattle.stretch.proofs.Bounds.{judge_small}
 use Rattle.stretch.proofs.Judging.{one_short}
 use Rattle.demands.specs.Traces.{calls_of, behind, StopsBy, first_met}
@@ -61,21 +58,21 @@ module _ (p : Property) (good : property_refusal (meant p) ≡ 0) (trace : List 
       w : Walk
       w = walked p trace
 
-      refused-some : (n : ℕ) → WalkedOver (record_of p (fresh_by p)) trace (length trace) (walk_answer trace w) → w.stop ≡ Refused n → n ≡ 0 → ⊥
+      refused-some : (n : ℕ) → WalkedOver (record_of p (fresh_by p)) trace (length trace) (walk_answer trace w) → w.stop ≡ Stopping.at_refusal n → n ≡ 0 → ⊥
       refused-some n h q =
-          (subst (λ (x : Stop). StopsBy (stop_number x) (length trace - w.taken) w.session (behind h.entries trace) (stop_refusal x) h.more) q h.stops).2
+          (subst (λ (x : Stopping). StopsBy (stop_number x) (length trace - w.taken) w.session (behind h.entries trace) (stop_refusal x) h.more) q h.stops).2
 
-      go : (stop : Stop) → w.stop ≡ stop → (behind : Bool) → ltb w.read (length trace) ≡ behind → (trace_judged p trace).refusal ≡ 0 → TraceTaken
-      go Budget q b r z =
-          let y : ◌≡◌ {A = ℕ} 7 0 = sym (ap (λ (x : Stop). (by_stop x (ltb w.read (length trace)) w).refusal) q ∙ (unfold by_stop in refl)) ∙ z in
+      go : (stop : Stopping) → w.stop ≡ stop → (behind : Bool) → ltb w.read (length trace) ≡ behind → (trace_judged p trace).refusal ≡ 0 → TraceTaken
+      go Stopping.at_budget q b r z =
+          let y : ◌≡◌ {A = ℕ} 7 0 = sym (ap (λ (x : Stopping). (by_stop x (ltb w.read (length trace)) w).refusal) q ∙ (unfold by_stop in refl)) ∙ z in
           let o : ⊥ = omega arith in absurd o
-      go (Refused n) q b r z =
-          let y : n ≡ 0 = sym (ap (λ (x : Stop). (by_stop x (ltb w.read (length trace)) w).refusal) q ∙ (unfold by_stop in refl)) ∙ z in
+      go (Stopping.at_refusal n) q b r z =
+          let y : n ≡ 0 = sym (ap (λ (x : Stopping). (by_stop x (ltb w.read (length trace)) w).refusal) q ∙ (unfold by_stop in refl)) ∙ z in
           absurd (refused-some n (walked-over (length trace) (record_of p (fresh_by p)) trace) q y)
-      go End q true r z =
+      go Stopping.at_end q true r z =
           let y : ◌≡◌ {A = ℕ} 8 0 = sym ((λ i. (by_stop (q i) (r i) w).refusal) ∙ (unfold by_stop in refl)) ∙ z in
           let o : ⊥ = omega arith in absurd o
-      go End q false r z =
+      go Stopping.at_end q false r z =
           record {
             whole = whole_trace (length trace) (running p good []) trace w (sym on_fresh) q (ltb-false w.read (length trace) r);
             is = (λ i. by_stop (q i) (r i) w) ∙ (unfold by_stop in refl);
@@ -115,13 +112,13 @@ module _ (property trace : List ℕ) where
     where
       go : (n : ℕ) → read_refusal property ≡ n → (b : Bool) → behind_it ≡ b
           → (judge_of property trace).refusal ≡ first_of n (first_of (given 8 b) (first_met (length trace) (meant p) fresh trace))
-      go (suc n) e b q = ap (λ (j : Judged). j.refusal) (judged_is (suc n) e) ∙ (unfold by_property in refl)
+      go (suc n) e b q = ap (λ (j : Judging). j.refusal) (judged_is (suc n) e) ∙ (unfold by_property in refl)
       go zero e true q =
-          ap (λ (j : Judged). j.refusal) (judged_is 0 e ∙ by_taken true q)
-      go zero e false q = ap (λ (j : Judged). j.refusal) (judged_trace e q) ∙ trace_first p (taken_good e) trace
+          ap (λ (j : Judging). j.refusal) (judged_is 0 e ∙ by_taken true q)
+      go zero e false q = ap (λ (j : Judging). j.refusal) (judged_trace e q) ∙ trace_first p (taken_good e) trace
 
   -- What it takes: one property's whole packing and one trace's, of records that are taken from a fresh session; and the verdict.
-  pub record JudgeTaken (j : Judged) : Type 0 where
+  pub record JudgeTaken (j : Judging) : Type 0 where
     pub good : property_refusal (meant p) ≡ 0
     pub property-packed : property ≡ property_form (meant p)
     pub entries : List Entry
@@ -140,7 +137,7 @@ module _ (property trace : List ℕ) where
       let rest = none_first 7 behind_it parts.1 in
       let good : property_refusal (meant p) ≡ 0 = taken_good parts.0 in
       let same = judged_trace parts.0 rest.0 in
-      let t = trace_taken p good trace (sym (ap (λ (j : Judged). j.refusal) same) ∙ z) in
+      let t = trace_taken p good trace (sym (ap (λ (j : Judging). j.refusal) same) ∙ z) in
       let w = t.whole in
       let v = standing-told p good (calls_of w.entries) in
       record {
@@ -149,21 +146,21 @@ module _ (property trace : List ℕ) where
             sym (form-read property bp parts.0 ∙ take_all (Read.taken property) property (ltb-false (Read.taken property) (length property) rest.0));
         entries = w.entries;
         trace_packed = (trace_writes_back trace 0 w.entries bt (subst (λ (s : Session). TakenAs trace (latest_of s) w.entries) (fresh_record p good) w.is)).0;
-        counted = ap (λ (j : Judged). j.count) (same ∙ t.is) ∙ w.counted;
+        counted = ap (λ (j : Judging). j.count) (same ∙ t.is) ∙ w.counted;
         each_taken = all-taken p good [] (calls_of w.entries) w.each;
         verdict = v.0;
         stands = v.1;
         only = v.3;
-        told = ap (λ (j : Judged). j.verdict) (same ∙ t.is) ∙ ap standing w.session ∙ v.2;
+        told = ap (λ (j : Judging). j.verdict) (same ∙ t.is) ∙ ap standing w.session ∙ v.2;
       }
 
 -- "gives its number alone, with verdict and count 0"
-stops_alone : (n : ℕ) (stop : Stop) (b : Bool) (w : Walk) → (by_stop stop b w).refusal ≡ suc n → by_stop stop b w ≡ refused (suc n)
+stops_alone : (n : ℕ) (stop : Stopping) (b : Bool) (w : Walk) → (by_stop stop b w).refusal ≡ suc n → by_stop stop b w ≡ refused (suc n)
 unfolding by_stop
-stops_alone n Budget b w e = ap refused e
-stops_alone n (Refused m) b w e = ap refused e
-stops_alone n End true w e = ap refused e
-stops_alone n End false w e = let o : ⊥ = omega arith in absurd o
+stops_alone n Stopping.at_budget b w e = ap refused e
+stops_alone n (Stopping.at_refusal m) b w e = ap refused e
+stops_alone n Stopping.at_end true w e = ap refused e
+stops_alone n Stopping.at_end false w e = let o : ⊥ = omega arith in absurd o
 
 by_alone : (n m : ℕ) (b : Bool) (p : Property) (trace : List ℕ) → (by_property m b (trace_judged p trace)).refusal ≡ suc n → by_property m b (trace_judged p trace) ≡ refused (suc n)
 unfolding by_property

@@ -25,8 +25,7 @@ use Rattle.session_record.specs.declared.Session.{Session}
 use Rattle.session_record.specs.Record.{latest_of, count_of, out_of_range}
 use Rattle.session_record.specs.Step.{standing, fresh_of, stepped_of, stepped_through}
 use Rattle.session_record.proofs.Running.{running_record}
-use Rattle.walk.specs.declared.Stop.TheVariants.{Refused}
-use Rattle.walk.specs.Walk.{One, one_call, one_read, one_of, stopped, walked_by, walk_on, walk_answer, walk_of}
+use Rattle.walk.specs.Walk.{Stopping, One, one_call, one_read, one_of, stopped, walked_by, walk_on, walk_answer, walk_of}
 use Rattle.printout.specs.Text.{line_text, stop_text}
 use Rattle.printed.specs.Printed.{one_after, call_text, last_line, by_one, printed_by, printed_of}
 use Rattle.printed.specs.Listing.{lines_by, records_by}
@@ -221,7 +220,7 @@ refused-shown s count bytes n e = unfold printed_by in (named (out_of_range s) (
     by (One.refused m) h = unfold walked_by by_one in (ap (λ (k : ℕ). last_line s count (stop_text count k)) h)
     by (One.took c after) h = absurd (unfold walked_by walk_on in (omega (arith, h)))
 
-    named : (t : Bool) → (walk_answer bytes (cond t (stopped s (Refused 10) 0) (walk_on 1 s bytes))).refusal ≡ suc n
+    named : (t : Bool) → (walk_answer bytes (cond t (stopped s (Stopping.at_refusal 10) 0) (walk_on 1 s bytes))).refusal ≡ suc n
         → cond t (last_line s count (stop_text count 10)) (by_one s count (one_of s bytes)) ≡ last_line s count (stop_text count (suc n))
     named true h = ap (λ (k : ℕ). last_line s count (stop_text count k)) h
     named false h = by (one_of s bytes) (unfold walk_on in h)

@@ -27,8 +27,7 @@ use Rattle.session_record.specs.Step.{Stepping}
 use Rattle.session_record.specs.Record.{latest_of, record_of, out_of_range}
 use Rattle.session_record.specs.Step.{refusal_of, stepped_of, stepped_through}
 use Rattle.session_record.proofs.Steps.{answer-refusal}
-use Rattle.walk.specs.declared.Stop.TheVariants.{Refused}
-use Rattle.walk.specs.Walk.{Walk, Walking, One, stop_number, stop_refusal, one_call, one_read, one_of, stopped, one_more, walked_by, walk_on, budget_of, some_gap, walk_of}
+use Rattle.walk.specs.Walk.{Stopping, Walk, Walking, One, stop_number, stop_refusal, one_call, one_read, one_of, stopped, one_more, walked_by, walk_on, budget_of, some_gap, walk_of}
 use Rattle.walk.proofs.Lost.{last_by_gap}
 use Rattle.walk.proofs.Chunks.{GoesOnBy, chunks}
 use Rattle.stretch.specs.Judge.{walked, by_stop, trace_judged, by_property, judge_of}
@@ -179,7 +178,7 @@ same-walk same s bytes other budget h g e =
       lost = (walk_of s bytes budget).lost;
       session = u.session;
     })
-    (ap (cond (out_of_range s) (stopped s (Refused 10) 0)) (same-walk_on (budget_of budget) same s bytes other h g e))
+    (ap (cond (out_of_range s) (stopped s (Stopping.at_refusal 10) 0)) (same-walk_on (budget_of budget) same s bytes other h g e))
 
 -- So it is with the judge: refusal, verdict and count are the same.
 same_size : {entries others : List Entry} → SameEntries entries others → (bytes other : List ℕ) (before : ℕ) → BeginsWith bytes before entries → BeginsWith other before others

@@ -34,8 +34,7 @@ use Rattle.session_record.specs.Step.{answer_of, refusal_of, stepped_of}
 use Rattle.session_record.proofs.Steps.{step_refused, step_taken, answer-refusal}
 use Rattle.record_form.specs.Record.{record_size, record_answer}
 use Rattle.trace_form.specs.ReadAs.{ReadAs, read_as}
-use Rattle.walk.specs.declared.Stop.TheVariants.{Refused}
-use Rattle.walk.specs.Walk.{Walk, Walking, one_call, one_read, stopped, one_more, walked_by, walk_on, walk_answer, budget_of, walk_of}
+use Rattle.walk.specs.Walk.{Stopping, Walk, Walking, one_call, one_read, stopped, one_more, walked_by, walk_on, walk_answer, budget_of, walk_of}
 use Rattle.demands.specs.Ring.{start_of, count_of, SaysSame}
 
 module _ (s r : Session) (same : SaysSame s r) where
@@ -182,7 +181,7 @@ module _ (s r : Session) (same : SaysSame s r) where
       ∙ ap (λ (t : ℕ). given_back s (walked_by (one_read r (read_as (record_answer bytes t))) r (λ after. walk_on budget after (drop record_size bytes)))) same.latest
 
   whole_same : (b : Bool) (budget : ℕ) (bytes : List ℕ)
-      → cond b (stopped s (Refused 10) 0) (walk_on budget s bytes) ≡ given_back s (cond b (stopped r (Refused 10) 0) (walk_on budget r bytes))
+      → cond b (stopped s (Stopping.at_refusal 10) 0) (walk_on budget s bytes) ≡ given_back s (cond b (stopped r (Stopping.at_refusal 10) 0) (walk_on budget r bytes))
   whole_same true budget bytes = refl
   whole_same false budget bytes = on_same budget bytes
 
@@ -193,5 +192,5 @@ pub ring_walk : (s r : Session) → SaysSame s r → (bytes : List ℕ) (budget 
 unfolding walk_of
 ring_walk s r same bytes budget =
     ap (walk_answer bytes)
-    (ap (λ (b : Bool). cond b (stopped s (Refused 10) 0) (walk_on (budget_of budget) s bytes)) (demand_ring s r same).0
+    (ap (λ (b : Bool). cond b (stopped s (Stopping.at_refusal 10) 0) (walk_on (budget_of budget) s bytes)) (demand_ring s r same).0
     ∙ whole_same s r same (out_of_range r) (budget_of budget) bytes)

@@ -27,9 +27,7 @@ use Rattle.session_record.specs.Step.{Stepping}
 use Rattle.session_record.specs.Record.{latest_of, cuts_of, out_of_range}
 use Rattle.session_record.specs.Step.{stepped_of, stepped_through}
 use Rattle.session_record.proofs.Steps.{step_taken, answer-refusal}
-use Rattle.walk.specs.declared.Stop.{Stop}
-use Rattle.walk.specs.declared.Stop.TheVariants.{End, Refused}
-use Rattle.walk.specs.Walk.{Walk, Walking, stop_number, stop_refusal, one_call, one_read, stopped, one_more, walked_by, walk_on, lost_with, last_lost, walk_answer, budget_of, walk_of, rest_start}
+use Rattle.walk.specs.Walk.{Stopping, Walk, Walking, stop_number, stop_refusal, one_call, one_read, stopped, one_more, walked_by, walk_on, lost_with, last_lost, walk_answer, budget_of, walk_of, rest_start}
 use Rattle.walk.proofs.Going.{walk_refused, walk-taken}
 use Rattle.walk.proofs.Steps.{rest_behind}
 use Rattle.demands.specs.Traces.{calls_of, BeginsWith, behind, TakenOneByOne, StopsBy}
@@ -142,7 +140,7 @@ walked-over (suc budget) s bytes = by_front (read_as (record_answer bytes (lates
     some_left e = omega (arith, e)
 
     -- nothing is taken
-    stop_here : (stop : Stop) (more : ℕ) → StopsBy (stop_number stop) (suc budget - 0) s bytes (stop_refusal stop) more
+    stop_here : (stop : Stopping) (more : ℕ) → StopsBy (stop_number stop) (suc budget - 0) s bytes (stop_refusal stop) more
         → WalkedOver s bytes (suc budget) (walk_answer bytes (stopped s stop more))
     stop_here stop more h =
         record {
@@ -185,14 +183,14 @@ walked-over (suc budget) s bytes = by_front (read_as (record_answer bytes (lates
         → ((after : Session) → WalkedOver after (drop record_size bytes) budget (walk_answer (drop record_size bytes) (on after)))
         → WalkedOver s bytes (suc budget) (walk_answer bytes (walked_by (one_call s (entry_call e) n) s on))
     tried e read zero z k = unfold one_call walked_by in (one-taken e read z (on (stepped_of s (entry_call e)).session) (k (stepped_of s (entry_call e)).session))
-    tried e read (suc n) z k = unfold one_call walked_by in (stop_here (Refused (suc n)) 0 (some_left, inr (e, read, z), (λ y. omega arith), refl))
+    tried e read (suc n) z k = unfold one_call walked_by in (stop_here (Stopping.at_refusal (suc n)) 0 (some_left, inr (e, read, z), (λ y. omega arith), refl))
 
     by_front : (x : ReadAs) → Front record_answer bytes (latest_of s) x → ((after : Session) → WalkedOver after (drop record_size bytes) budget (walk_answer (drop record_size bytes) (on after)))
         → WalkedOver s bytes (suc budget) (walk_answer bytes (walked_by (one_read s x) s on))
     by_front x (entry e read) k = unfold one_read in (tried e read _ refl k)
-    by_front x (ended read) k = unfold one_read walked_by in (stop_here End record_size (some_left, read, refl, refl))
+    by_front x (ended read) k = unfold one_read walked_by in (stop_here Stopping.at_end record_size (some_left, read, refl, refl))
     by_front x (refused n number some) k =
-        unfold one_read walked_by in (stop_here (Refused n) 0 (some_left, inl number, some, refl))
+        unfold one_read walked_by in (stop_here (Stopping.at_refusal n) 0 (some_left, inl number, some, refl))
 
 -- Of the promised walk: refusal 10, whatever the budget, or that.
 -- "a budget of 0 to 4,096 records (more counts as 4,096)"

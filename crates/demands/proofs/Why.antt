@@ -21,7 +21,7 @@ use Rattle.reasons.proofs.Lines.{as_calls, takes_all, StopsAt, stops_at}
 use Rattle.property.specs.Meant.{meant}
 use Rattle.property.specs.declared.Property.{Property}
 use Rattle.session_record.specs.Step.{stepped_of}
-use Rattle.judged_rest.specs.declared.Reason.{Reason}
+use Rattle.judged_rest.specs.Judged.{Reasoning}
 use Rattle.judged_rest.specs.Lent.{Lines, run_of}
 use Rattle.first_order.specs.Search.{Pair}
 use Rattle.why.specs.Why.{uneven, why_refusal, over, Shows, ShowsBy, ReasonBy, IsReason}
@@ -37,7 +37,7 @@ use Rattle.demands.proofs.Placed.{first-shown, names_each, none_later, numbers-i
 
 -- ==== Refusals: "the property's 1, 2, 3 and the lines' 3, 4, 5, 6 as a session gives them, then 13 .., then 9 ..; what is refused alters no
 -- list". 7 is for lists of a run that are not equally long.
-pub demand_1_why : (p : Property) (ls : Lines) (l l2 : Pair) (r : Reason) (m m2 : Pair) → IsReason p ls r l l2 m m2
+pub demand_1_why : (p : Property) (ls : Lines) (l l2 : Pair) (r : Reasoning) (m m2 : Pair) → IsReason p ls r l l2 m m2
     → Refuses r.refusal
     (first_of (property_refusal (meant p))
     (first_of (given 7 (not (eqb (length ls.output) (length ls.stamp)) || not (eqb (length ls.action) (length ls.stamp))))
@@ -52,12 +52,12 @@ demand_1_why p ls l l2 r m m2 h = record { first = number (why_refusal p ls l l2
   where
     number : (k : ℕ) → ReasonBy k (meant p) (run_of ls) r l l2 m m2 → r.refusal ≡ k
     number zero h = h.taken
-    number (suc k) h = ap (λ (x : Reason). x.refusal) h.alone
+    number (suc k) h = ap (λ (x : Reasoning). x.refusal) h.alone
 
     alone : (k : ℕ) → ReasonBy k (meant p) (run_of ls) r l l2 m m2 → (n : ℕ) → r.refusal ≡ suc n → (r ≡ record { refusal = suc n; verdict = 0; line = 0 }) × (m ≡ l) × (m2 ≡ l2)
     alone zero h n e = let z : 0 ≡ suc n = sym h.taken ∙ e in let w : ⊥ = omega arith in absurd w
     alone (suc k) h n e = (
-      h.alone ∙ ap (λ (x : ℕ). record { refusal = x; verdict = 0; line = 0 }) (sym (ap (λ (x : Reason). x.refusal) h.alone) ∙ e),
+      h.alone ∙ ap (λ (x : ℕ). record { refusal = x; verdict = 0; line = 0 }) (sym (ap (λ (x : Reasoning). x.refusal) h.alone) ∙ e),
       h.kept,
       h.kept2,
     )
@@ -86,7 +86,7 @@ module _ (p : Property) (good : property_refusal (meant p) ≡ 0) where
 
 -- ==== Taken: the verdict is the one that stands on a session after these lines, the line is the one after which it was first reached,
 -- and the orders are as the verdict asks.
-pub record Demand-why (p : Words.Property) (run : Run) (r : Reason) (l l2 m m2 : Pair) : Type 0 where
+pub record Demand-why (p : Words.Property) (run : Run) (r : Reasoning) (l l2 m m2 : Pair) : Type 0 where
   pub all-taken : AllTaken p fresh (as_calls run)
   pub is_run : (watched p fresh (as_calls run)).run ≡ run
   pub verdict : Verdict
@@ -160,13 +160,13 @@ shown_by Verdict.suspect p run l l2 m m2 s = (shown p run _ l m s.0, shown p run
 shown_by Verdict.certain p run l l2 m m2 s = (shown p run _ l m s.0, s.1)
 shown_by Verdict.blind p run l l2 m m2 s = s
 
-pub demand_why : (p : Property) (ls : Lines) (l l2 : Pair) (r : Reason) (m m2 : Pair) → IsReason p ls r l l2 m m2 → r.refusal ≡ 0
+pub demand_why : (p : Property) (ls : Lines) (l l2 : Pair) (r : Reasoning) (m m2 : Pair) → IsReason p ls r l l2 m m2 → r.refusal ≡ 0
     → Demand-why (meant p) (run_of ls) r l l2 m m2
 unfolding IsReason
 demand_why p ls l l2 r m m2 h e = go (why_refusal p ls l l2) refl h
   where
     go : (k : ℕ) → why_refusal p ls l l2 ≡ k → ReasonBy k (meant p) (run_of ls) r l l2 m m2 → Demand-why (meant p) (run_of ls) r l l2 m m2
-    go (suc k) q h = let z : suc k ≡ 0 = sym (ap (λ (x : Reason). x.refusal) h.alone) ∙ e in let w : ⊥ = omega arith in absurd w
+    go (suc k) q h = let z : suc k ≡ 0 = sym (ap (λ (x : Reasoning). x.refusal) h.alone) ∙ e in let w : ⊥ = omega arith in absurd w
     go zero q h =
         let parts = taken_parts p ls l l2 q in
         let none : lines_refusal (meant p) fresh (run_of ls) ≡ 0 =

@@ -35,13 +35,7 @@ fn reaches(breaking: bool, verdict: Verdict) -> bool
 }
 
 // The order with the line at place k behind it.
-fn with_line(
-    steps: &Steps,
-    from: Reached,
-    output: bool,
-    action: u8,
-    k: usize,
-) -> Reached
+fn with_line(steps: &Steps, from: Reached, output: bool, action: u8, k: usize) -> Reached
     requires { Fits steps.now.property from.cut × (k + 1 < 2 ^ 64) }
     ensures { (result ≡ Search.with_line steps.now.property from output action k) × Fits steps.now.property result.cut }
 {
@@ -85,11 +79,10 @@ fn choice(
         return x;
     }
     let then = with_line(steps, from, true, action[y], y);
-    let reached = match judged_rest::judge(steps, output, action, stamp, then) {
-        Ok(end) => reaches(breaking, end.verdict),
-        Err(_) => reaches(breaking, Verdict::Clear),
-    };
-    if reached { y } else { x }
+    let end = judged_rest::judge(steps, output, action, stamp, then);
+    // Behind a refusal the number told is 0, that of clear.
+    let verdict = end.map_or(Verdict::Clear, |reason| reason.verdict);
+    if reaches(breaking, verdict) { y } else { x }
 }
 
 // The numbers of the lines of the first order with the wanted end.

@@ -1,15 +1,21 @@
 -- The judgement's loop on lent memory: where it starts, and a turn of it.
-use Prim.Native.Nat.{ℕ, suc, ◌+◌, ◌<◌}
-use mathlib.Core.Path.{◌≡◌, sym, ap, ◌∙◌, subst}
-use mathlib.Core.Bool.{true≢false, cond}
+use Rattle.std.specs.Prelude.{Err}
+use Prim.Native.Nat.{ℕ, zero, suc, ◌+◌, ◌≤◌, ◌<◌}
+use mathlib.Core.Path.{◌≡◌, refl, sym, ap, ◌∙◌, subst}
+use mathlib.Core.Bool.{Bool, true, false, true≢false, cond}
 use mathlib.Core.List.{List}
 use native.Mathlib.Omega.{arith}
+use lib.Dec.{eqb}
 use lib.ListN.{length}
+use borrow.Author.Tests.{eqb-true, eqb-false}
 use Rattle.meaning.specs.Numbers.{property_refusal}
 use Rattle.meaning.specs.Node.{verdict_number}
 use Rattle.meaning.specs.Calls.{fresh_clock}
 use Rattle.meaning.proofs.Lists.{done}
 use Rattle.meaning.proofs.InOrder.{ended}
+use Rattle.meaning.proofs.Refusals.{unless_kept}
+use Rattle.outcomes.specs.declared.Refusal.{Refusal}
+use Rattle.outcomes.proofs.Same.{refusal_not_0}
 use Rattle.property.specs.Meant.{meant}
 use Rattle.property.specs.declared.Property.{Property}
 use Rattle.matcher.specs.declared.Cut.{Cut}
@@ -25,10 +31,9 @@ use Rattle.cuts.proofs.Lines.{holds-one}
 use Rattle.session_record.specs.Lent.{Memory, memory, held_in, Ready}
 use Rattle.session_record.proofs.Fit.{Fit}
 use Rattle.session_record.proofs.Ready.{open_ready}
-use Rattle.judged_rest.specs.declared.Reason.{Reason}
 use Rattle.judged_rest.specs.declared.Reached.{Reached}
 use Rattle.judged_rest.specs.Lent.{Lines, is_output, line_in}
-use Rattle.judged_rest.specs.Judged.{Turned, begun, judged, turned}
+use Rattle.judged_rest.specs.Judged.{Reasoning, Judged, reason_in, waits, Turned, begun, judged_line, judged, turned}
 
 -- rows with the one cut, at the fresh clock
 module _ (p : Property) (good : property_refusal (meant p) ≡ 0) (c : Cut) (fits : Fits p c) (rows after : List (List ℕ)) (span : Span) (clock : Clock)
@@ -64,12 +69,42 @@ module _ (p : Property) (good : property_refusal (meant p) ≡ 0) (c : Cut) (fit
     open_ready one holds.usable (ap (λ (k : Clock). k.blind) clocks) (subst (Fit p) (sym one-cuts) begun_fit),
   )
 
-pub judged-next : (ls : Lines) (from : Reached) (k : ℕ) (m : Memory) (before : Reason) (after : Memory) (told : Reason)
-    → record { cuts = held_in m; told = before } ≡ judged m.property ls from k
+-- a turn goes on with it,
+pub judged-next : (p : Property) (ls : Lines) (from : Reached) (k : ℕ) (m : Memory) (before : Reasoning) (after : Memory) (told : Reasoning)
+    → m.property ≡ p
+    → record { cuts = held_in m; told = before } ≡ judged p ls from k
     → Turned from (is_output ls k) (line_in ls k) k m before after told
-    → record { cuts = held_in after; told = told } ≡ judged m.property ls from (k + 1)
+    → record { cuts = held_in after; told = told } ≡ judged p ls from (k + 1)
 unfolding judged
-judged-next ls from k m before after told e t =
+judged-next p ls from k m before after told own e t =
     sym t.goes
-    ∙ ap (turned m.property from (is_output ls k) (line_in ls k) k) e
-    ∙ ap (judged m.property ls from) (let z : suc k ≡ k + 1 = omega arith in z)
+    ∙ ap (λ (q : Property). turned q from (is_output ls k) (line_in ls k) k (record { cuts = held_in m; told = before })) own
+    ∙ ap (turned p from (is_output ls k) (line_in ls k) k) e
+    ∙ ap (judged p ls from) (let z : suc k ≡ k + 1 = omega arith in z)
+
+-- and behind a refusal nothing is judged.
+pub judged-stays : (p : Property) (ls : Lines) (from : Reached) (k : ℕ) → ((judged p ls from k).told.refusal ≡ 0 → ⊥)
+    → (n : ℕ) → k ≤ n → judged p ls from n ≡ judged p ls from k
+unfolding judged turned
+judged-stays p ls from k h zero l = ap (judged p ls from) (let z : zero ≡ k = omega arith in z)
+judged-stays p ls from k h (suc n) l = go (eqb k (suc n)) (eqb-true k (suc n)) (eqb-false k (suc n)) (judged-stays p ls from k h n)
+  where
+    j : Judged
+    j = judged p ls from n
+
+    go : (b : Bool) → (b ≡ true → k ≡ suc n) → (b ≡ false → k ≡ suc n → ⊥) → (k ≤ n → j ≡ judged p ls from k)
+        → judged p ls from (suc n) ≡ judged p ls from k
+    go true y d ih = ap (judged p ls from) (sym (y refl))
+    go false y d ih =
+        let ne : k ≡ suc n → ⊥ = d refl in
+        let same : j ≡ judged p ls from k = ih (omega arith) in
+        unless_kept j.told.refusal (cond (waits from n (is_output ls n)) (judged_line p (line_in ls n) n j) j) j
+        (λ z. h (sym (ap (λ (x : Judged). x.told.refusal) same) ∙ z))
+        ∙ same
+
+pub judged-refused : (p : Property) (ls : Lines) (from : Reached) (k n : ℕ) → k ≤ n → (refusal : Refusal)
+    → reason_in (Err refusal) ≡ (judged p ls from k).told → reason_in (Err refusal) ≡ (judged p ls from n).told
+judged-refused p ls from k n h refusal e =
+    e
+    ∙ ap (λ (j : Judged). j.told)
+    (sym (judged-stays p ls from k (λ z. refusal_not_0 refusal (ap (λ (r : Reasoning). r.refusal) e ∙ z)) n h))

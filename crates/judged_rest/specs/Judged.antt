@@ -56,9 +56,10 @@ judged_line p l k j =
 unfoldable pub turned : Property → Reached → Bool → Line → ℕ → Judged → Judged
 turned p from output l k j = unless_refused j.told.refusal (cond (waits from k output) (judged_line p l k j) j) j
 
--- On lent memory: what it holds, and a next line can start.
+-- On lent memory: what it holds, of the same property, and a next line can start.
 pub record Turned (from : Reached) (output : Bool) (l : Line) (k : ℕ) (m : Memory) (before : Reasoning) (after : Memory) (told : Reasoning) : Type 0 where
   pub goes : turned m.property from output l k (record { cuts = held_in m; told = before }) ≡ record { cuts = held_in after; told = told }
+  pub own : after.property ≡ m.property
   pub ready : Ready after
 
 abbrev pub begun : Property → Cut → Judged

@@ -60,7 +60,13 @@ fn told(before: Reason, verdict: Verdict, k: usize) -> Reason
 }
 
 // The line at place k on lent rows, if it waits.
-fn turn(lent: &mut Lent<'_>, from: Reached, before: Reason, line: Line, k: usize) -> Result<Reason, Refusal>
+fn turn(
+    lent: &mut Lent<'_>,
+    from: Reached,
+    before: Reason,
+    line: Line,
+    k: usize,
+) -> Result<Reason, Refusal>
     requires { k + 1 < 2 ^ 64 }
     ensures { Turned from line.output (line_of line.output line.action line.stamp) k
         (memory_in lent.old) (reason_in (Ok before)) (memory_in lent.new) (reason_in result) }
@@ -73,7 +79,13 @@ fn turn(lent: &mut Lent<'_>, from: Reached, before: Reason, line: Line, k: usize
 }
 
 // Judges the lines that are not yet in the order. Behind a refusal nothing is judged.
-pub fn judge(steps: &Steps, output: &[bool], action: &[u8], stamp: &[u64], from: Reached) -> Result<Reason, Refusal>
+pub fn judge(
+    steps: &Steps,
+    output: &[bool],
+    action: &[u8],
+    stamp: &[u64],
+    from: Reached,
+) -> Result<Reason, Refusal>
     requires fits { Fits steps.now.property from.cut }
     requires output_len { (length output.now ≡ length stamp.now) × (length action.now ≡ length stamp.now) }
     ensures { reason_in result ≡ (judged steps.now.property (lent output.now action.now stamp.now) from (length stamp.now)).told }

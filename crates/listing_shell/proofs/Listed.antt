@@ -8,8 +8,7 @@ use lib.ListN.{length, take, length-take}
 use Rattle.meaning.specs.Numbers.{property_refusal}
 use Rattle.property.specs.Meant.{meant}
 use Rattle.property.specs.declared.Property.{Property}
-use Rattle.record_form.specs.declared.RecordRead.{RecordRead}
-use Rattle.record_form.specs.Record.{ReadBy}
+use Rattle.record_form.specs.Record.{RecordRead, ReadBy}
 use Rattle.trace_form.specs.ReadAs.{case_as}
 use Rattle.trace_form.proofs.Reader.{Reads, record_reads}
 use Rattle.tap_form.proofs.Reader.{tap_reads}
@@ -60,15 +59,15 @@ begun_fresh b =
     subst (λ (x : Printed). x.more ≡ true → x.session ≡ (fresh_of x.session.property).session) (sym b.adds)
     (λ more. fresh_own _ (begins_fit b.bytes more))
 
--- Its rows stand for it.
-pub rows-fresh : (s : Session) → s ≡ (fresh_of s.property).session → out_of_range s ≡ false → (rows : List (List ℕ)) → rows ≡ rows_of s
-    → record_in (memory s.property rows s.shared.status) ≡ (fresh_of s.property).session
-rows-fresh s own fits rows same =
-    let p = s.property in
+-- Its rows stand for it, with its own property.
+pub rows-fresh : (s : Session) → s ≡ (fresh_of s.property).session → out_of_range s ≡ false → (p : Property) → p ≡ s.property → (rows : List (List ℕ)) → rows ≡ rows_of s
+    → record_in (memory p rows s.shared.status) ≡ (fresh_of s.property).session
+rows-fresh s own fits p same-property rows same =
     let good = (ranged s fits).formed in
-    ap (λ (x : Session). record_in (memory p rows x.shared.status)) own
-    ∙ fresh_means p good (fresh_of p) refl rows (same ∙ ap rows_of own)
-    ∙ sym (fresh_record p good)
+    ap (λ (q : Property). record_in (memory q rows s.shared.status)) same-property
+    ∙ ap (λ (x : Session). record_in (memory s.property rows x.shared.status)) own
+    ∙ fresh_means s.property good (fresh_of s.property) refl rows (same ∙ ap rows_of own)
+    ∙ sym (fresh_record s.property good)
 
 -- ---- a record
 

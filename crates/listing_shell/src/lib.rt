@@ -6,24 +6,22 @@ ghost use Rattle.std.specs.Prelude.{◌≤◌, ◌≡◌, true, false, length, t
 ghost use Rattle.io.specs.Counts.{IsPrefixLen};
 ghost use Rattle.property_form.specs.Form.{form_size};
 ghost use Rattle.property_form.specs.Read.{length_read};
-ghost use Rattle.record_form.specs.Record.{ReadBy};
-ghost use Rattle.table.specs.Table.{IsTable};
+ghost use Rattle.record_form.specs.Record.{ReadBy, read_case};
 ghost use Rattle.session_record.specs.Record.{out_of_range};
 ghost use Rattle.session_record.specs.Step.{fresh_of};
-ghost use Rattle.session_record.specs.Lent.{memory, Ready};
+ghost use Rattle.session_record.specs.Loan.{memory_in};
 ghost use Rattle.listing_shell.specs.Form.{size_of, reader_of, Lists};
 ghost use Rattle.listing_shell.specs.Next.{Begun, Follows};
 
-use held::Status;
 use line_text::{Line, Text};
+use outcomes::Refusal;
 use printed::Printed;
 use printed::lent::Added;
 use property::Property;
-use record_form::RecordRead;
-use rows::Words;
-use session_record::Session;
+use record_form::Record;
+use session_record::{Lent, Session, rows_of};
 use std::io::{Read, Write};
-use table::Table;
+use table::Steps;
 
 // Reads until `buf` is full, the input ends or a read fails, and answers how many bytes it put to the front of `buf`. A reader that keeps
 // nothing back, as standard input or a file, is asked for no more bytes than there is room for. A read that a signal interrupts has failed.
@@ -98,8 +96,8 @@ fn record_size(form: Form) -> usize
 }
 
 // The record at the front of the bytes; `before` is the stamp before it.
-fn read_record(form: Form, bytes: &[u8], before: u64) -> RecordRead
-    ensures { ReadBy (reader_of form) bytes.now before result }
+fn read_record(form: Form, bytes: &[u8], before: u64) -> Result<Record, Refusal>
+    ensures { ReadBy (reader_of form) bytes.now before (read_case result) }
 {
     match form {
         Form::Record => record_form::read_record(bytes, before),
@@ -108,23 +106,14 @@ fn read_record(form: Form, bytes: &[u8], before: u64) -> RecordRead
 }
 
 // Reads one record.
-fn next<R: Read>(
-    input: &mut R,
-    form: Form,
-    p: Property,
-    table: &Table,
-    rows: &mut [Words],
-    status: Status,
-    count: u64,
-) -> Added
-    requires { Ready (memory p rows.old status) × IsTable p table.now }
-    ensures { Lists form (memory p rows.old status) count result (memory p rows.new result.status) }
+fn next<R: Read>(input: &mut R, form: Form, lent: &mut Lent<'_>, count: u64) -> Added
+    ensures { Lists form (memory_in lent.old) count result (memory_in lent.new) }
 {
     let size = record_size(form);
     let mut bytes = [0u8; 6];
     let got = read_full(input, &mut bytes[..size]);
-    let read = read_record(form, &bytes[..got], status.clock.latest);
-    printed::lent::record(p, table, rows, status, count, read)
+    let read = read_record(form, &bytes[..got], lent.status.clock.latest);
+    printed::lent::record(lent, count, read)
 }
 
 // Writes what a record added, and answers whether the listing goes on. The form, the property and the number of records so far are there for
@@ -142,16 +131,19 @@ fn records<R: Read, W: Write>(input: &mut R, out: &mut W, form: Form, s: Session
     requires { (s ≡ (fresh_of s.property).session) × (out_of_range s ≡ false) }
 {
     let p = s.property;
-    let table = table::table(p);
-    let mut rows = session_record::rows_of(s);
-    let mut status = s.shared.status;
+    let steps = Steps::new(p);
+    let mut rows = rows_of(s);
+    let mut lent = Lent {
+        steps: &steps,
+        rows: &mut rows,
+        status: s.shared.status,
+    };
     let mut count = 0;
     for turns in 0..u64::MAX {
-        let r = next(input, form, p, &table, &mut rows, status, count);
+        let r = next(input, form, &mut lent, count);
         if !put(out, form, p, turns, r.text, r.more) {
             return;
         }
-        status = r.status;
         count = r.count;
     }
 }

@@ -14,7 +14,6 @@ use borrow.Author.Tests.{eqb-true, eqb-false, lt-leb, ltb-true, ltb-false, leb-t
 use Rattle.property.proofs.Refusal.{taken_bounds}
 use Rattle.meaning.specs.Words.{Line}
 use Rattle.meaning.specs.Words
-use Rattle.meaning.specs.Node.{verdict_number}
 use Rattle.meaning.specs.Matcher.{State, state_next, is_matched, Lengths, some_to, some_length, none_of, at_start, either, moved}
 use Rattle.meaning.specs.Step.{lengths, verdict_of}
 use Rattle.meaning.specs.Numbers.{property_refusal}

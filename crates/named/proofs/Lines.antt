@@ -8,11 +8,13 @@ use lib.ListN.{length, length-append}
 use lib.Seq.{take-append_seam, drop-append_seam}
 use Rattle.meaning.specs.Words.{Action}
 use Rattle.meaning.specs.Calls.{Call, mark_at}
-use Rattle.record_form.specs.Record.{record_answer, IsRead}
+use Rattle.std.specs.Prelude.{Result, Ok, Err}
+use Rattle.outcomes.specs.declared.Refusal.{Refusal}
+use Rattle.record_form.specs.Record.{record_answer, read_case, IsRead}
 use Rattle.trace_form.proofs.ReadAs.{read-case}
 use Rattle.trace_form.specs.ReadAs.{ReadAs, case_as, read_as}
-use Rattle.record_form.specs.declared.RecordRead.{RecordRead}
-use Rattle.record_form.specs.declared.RecordRead.TheVariants.{Input, Output, Gap, End, Refused}
+use Rattle.record_form.specs.declared.Record.{Record}
+use Rattle.record_form.specs.declared.Record.TheVariants.{Input, Output, Gap, End}
 use Rattle.session_record.specs.declared.Session.{Session}
 use Rattle.session_record.specs.Record.{latest_of, count_of, out_of_range}
 use Rattle.session_record.specs.Step.{standing, stepped_of}
@@ -64,14 +66,14 @@ is_call (ReadAs.call c) = true
 is_call ReadAs.end = false
 is_call (ReadAs.refused n) = false
 
--- The line of a call, and the line with the name, by what was read.
-pub record Shown (site release : List ℕ) (r : RecordRead) (number : ℕ) (c : Call) (after : Session) : Type 0 where
+-- The line of a call, and the line with the name, by the record that was read.
+pub record Shown (site release : List ℕ) (r : Record) (number : ℕ) (c : Call) (after : Session) : Type 0 where
   pub stamp : ℕ
   pub plain : call_text number c after ≡ line_text number (kind_as r) (action_as r) stamp (standing after) (count_of after)
   pub named : named_call_text (names_of site release) number c after
       ≡ named_line_text number (kind_as r) (action_as r) (name_as site release r) stamp (standing after) (count_of after)
 
-shown-entry : (site release : List ℕ) (number : ℕ) (after : Session) (r : RecordRead) (c : Call) → case_as r ≡ ReadAs.call c → Shown site release r number c after
+shown-entry : (site release : List ℕ) (number : ℕ) (after : Session) (r : Record) (c : Call) → case_as (read_case (Ok r)) ≡ ReadAs.call c → Shown site release r number c after
 shown-entry site release number after (Input a t) c e =
     subst (λ (x : Call). Shown site release (Input a t) number x after) (ap (call-or (mark_at 0 0)) e)
     (unfold call_text named_call_text kind_as action_as name_as in (record { stamp = t; plain = refl; named = refl }))
@@ -82,19 +84,17 @@ shown-entry site release number after (Gap n t) c e =
     subst (λ (x : Call). Shown site release (Gap n t) number x after) (ap (call-or (mark_at 0 0)) e)
     (unfold call_text named_call_text kind_as action_as name_as in (record { stamp = t; plain = refl; named = refl }))
 shown-entry site release number after (End t) c e = absurd (true≢false (sym (ap is_call e)))
-shown-entry site release number after (Refused n) c e = absurd (true≢false (sym (ap is_call e)))
 
 -- ---- the line of a record, and its name
 
-pub name_as_short : (site release : List ℕ) (r : RecordRead) → length (name_as site release r) ≤ 40
+pub name_as_short : (site release : List ℕ) (r : Record) → length (name_as site release r) ≤ 40
 unfolding name_as
 name_as_short site release (Input a t) = name_short site release false a
 name_as_short site release (Output a t) = name_short site release true a
 name_as_short site release (Gap n t) = omega arith
 name_as_short site release (End t) = omega arith
-name_as_short site release (Refused n) = omega arith
 
-module _ (site release bytes : List ℕ) (before number : ℕ) (line : List ℕ) (l : IsLine bytes before number line) (r : RecordRead) (h : IsRead bytes before r) where
+module _ (site release bytes : List ℕ) (before number : ℕ) (line : List ℕ) (l : IsLine bytes before number line) (r : Record) (h : IsRead bytes before (read_case (Ok r))) where
   abbrev front : List ℕ
   front = front_text number (kind_as r) (action_as r)
 
@@ -115,6 +115,11 @@ module _ (site release bytes : List ℕ) (before number : ℕ) (line : List ℕ)
       ap (inserted (length front) (name_as site release r)) line_is
       ∙ inserted-line number (kind_as r) (action_as r) (name_as site release r) entry.stamp (standing l.after) (count_of l.after)
       ∙ sym entry.named
+
+-- the reader took the record of a line
+pub line_taken : {bytes : List ℕ} {before number : ℕ} {line : List ℕ} → IsLine bytes before number line → {r : Result Record Refusal} {refusal : Refusal}
+    → IsRead bytes before (read_case r) → r ≡ Err refusal → ⊥
+line_taken l h e = true≢false (sym (ap is_call (ap (λ (x : Result Record Refusal). case_as (read_case x)) (sym e) ∙ sym (read-case h) ∙ l.reads)))
 
 -- ---- what a record adds, with and without names
 

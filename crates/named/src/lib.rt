@@ -7,7 +7,8 @@ ghost use Rattle.named.specs.Named.{names_of, named_call_text, named_of};
 ghost use Rattle.named.specs.Insert.{kind_as, action_as, name_as, IsLine};
 
 use line_text::{Line, NamedLine};
-use record_form::RecordRead;
+use printed::Printed;
+use record_form::Record;
 use session_record::Session;
 
 // What a record adds to the listing, and what the next one starts from.
@@ -21,29 +22,28 @@ pub struct Named {
     pub more: bool,
 }
 
-// The front of the line of the record that was read; what is no input or output is shown as a gap.
-fn front_of(number: u64, read: RecordRead) -> Line
+// The front of the line of a record; what is no input or output is shown as a gap.
+#[tactic(auto, unfolding(crate::specs::Insert::kind_as, crate::specs::Insert::action_as))]
+fn front_of(number: u64, read: Record) -> Line
     ensures { result ≡ front_text number (kind_as read) (action_as read) }
 {
     match read {
-        RecordRead::Input(action, _) => printout::front(number, 0, action),
-        RecordRead::Output(action, _) => printout::front(number, 1, action),
-        RecordRead::Gap(lost, _) => printout::front(number, 2, lost),
-        RecordRead::End(_) => printout::front(number, 2, 0),
-        RecordRead::Refused(_) => printout::front(number, 2, 0),
+        Record::Input(action, _) => printout::front(number, 0, action),
+        Record::Output(action, _) => printout::front(number, 1, action),
+        Record::Gap(lost, _) => printout::front(number, 2, lost),
+        Record::End(_) => printout::front(number, 2, 0),
     }
 }
 
 // The name of its action; a gap has none.
-fn name_of<'a>(site: &'a [u8], release: &'a [u8], read: RecordRead) -> &'a [u8]
+#[tactic(auto, unfolding(crate::specs::Insert::name_as))]
+fn name_of<'a>(site: &'a [u8], release: &'a [u8], read: Record) -> &'a [u8]
     ensures { result.now ≡ name_as site.now release.now read }
 {
     match read {
-        RecordRead::Input(action, _) => names::name(site, release, false, action),
-        RecordRead::Output(action, _) => names::name(site, release, true, action),
-        RecordRead::Gap(_, _) => &release[release.len()..],
-        RecordRead::End(_) => &release[release.len()..],
-        RecordRead::Refused(_) => &release[release.len()..],
+        Record::Input(action, _) => names::name(site, release, false, action),
+        Record::Output(action, _) => names::name(site, release, true, action),
+        Record::Gap(_, _) | Record::End(_) => &release[release.len()..],
     }
 }
 
@@ -60,7 +60,10 @@ fn named_line<'a>(
     ensures { (l : IsLine bytes.now before number line)
         → result ≡ named_call_text (names_of site.now release.now) number l.call l.after }
 {
-    let read = record_form::read_record(bytes, before);
+    // A line is of a record that the reader took.
+    let Ok(read) = record_form::read_record(bytes, before) else {
+        return named_text::unnamed(line);
+    };
     let front = front_of(number, read);
     named_text::with_name(line, front.len(), name_of(site, release, read))
 }
@@ -69,24 +72,22 @@ fn named_line<'a>(
 pub fn record<'a>(site: &'a [u8], release: &'a [u8], s: Session, count: u64, bytes: &[u8]) -> Named
     ensures { result ≡ named_of site.now release.now s count bytes.now }
 {
-    let shared = s.shared;
-    let status = shared.status;
-    let clock = status.clock;
-    let r = printed::record(s, count, bytes);
-    let line = r.text;
-    let session = r.session;
-    if r.more {
-        return Named {
-            text: named_line(site, release, bytes, clock.latest, r.count, line),
-            session: session,
-            count: r.count,
-            more: true,
-        };
-    }
+    let before = s.shared.status.clock.latest;
+    let Printed {
+        text: line,
+        session,
+        count,
+        more,
+    } = printed::record(s, count, bytes);
+    let text = if more {
+        named_line(site, release, bytes, before, count, line)
+    } else {
+        named_text::unnamed(line)
+    };
     Named {
-        text: named_text::unnamed(line),
-        session: session,
-        count: r.count,
-        more: false,
+        text,
+        session,
+        count,
+        more,
     }
 }

@@ -1,6 +1,6 @@
 -- A number is that of one refusal, and of one verdict: numbers tell a result whole.
 use Rattle.std.specs.Prelude.{ℕ, ◌≡◌, refl, true, false, cond, eqb, Result, Ok, Err, is_err}
-use Rattle.std.proofs.Common.{rules, arith}
+use Rattle.std.proofs.Common.{arith}
 use mathlib.Core.Bool.{true≢false}
 use mathlib.Core.Path.{sym, ◌∙◌, ap}
 use Rattle.outcomes.specs.Numbers.{refusal_number, refusal_in, number_told}

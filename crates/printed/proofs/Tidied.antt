@@ -32,15 +32,11 @@ module _ (s : Session) (fits : out_of_range s ≡ false) (count : ℕ) where
         ∙ sym (same_by (one_of s bytes))
         ∙ sym (not_named record_answer s count bytes fits)
 
-    by_more : (m : Bool) → r.more ≡ m → cond m (record { text = r.text; session = record_in after; count = r.count; more = m })
-        (record { text = r.text; session = s; count = r.count; more = false }) ≡ printed_of s count bytes
-    by_more m e =
-        ap (λ (x : Bool). cond x (record { text = r.text; session = record_in after; count = r.count; more = x })
-        (record { text = r.text; session = s; count = r.count; more = false })) (sym e)
-        ∙ comes_to
-
-    pub by_value_more : r.more ≡ true → ◌≡◌ {A = Printed} (record { text = r.text; session = record_in after; count = r.count; more = true }) (printed_of s count bytes)
-    by_value_more e = by_more true e
-
-    pub by_value_last : r.more ≡ false → ◌≡◌ {A = Printed} (record { text = r.text; session = s; count = r.count; more = false }) (printed_of s count bytes)
-    by_value_last e = by_more false e
+    pub by_value : (t : Session) → t ≡ cond r.more (record_in after) s
+        → ◌≡◌ {A = Printed} (record { text = r.text; session = t; count = r.count; more = r.more }) (printed_of s count bytes)
+    by_value t is = (λ i. record { text = r.text; session = is i; count = r.count; more = r.more }) ∙ go r.more ∙ comes_to
+      where
+        go : (m : Bool) → record { text = r.text; session = cond m (record_in after) s; count = r.count; more = m }
+            ≡ kept (record { text = r.text; session = record_in after; count = r.count; more = m })
+        go true = refl
+        go false = refl

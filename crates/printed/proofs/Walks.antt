@@ -12,8 +12,7 @@ use Rattle.session_record.specs.Step.{fresh_of}
 use Rattle.session_record.proofs.Fit.{fresh_fit, in_range}
 use Rattle.session_record.proofs.Steps.{stays_in_range}
 use Rattle.session_record.proofs.Running.{fresh_record}
-use Rattle.walk.specs.declared.Stop.TheVariants.{Refused}
-use Rattle.walk.specs.Walk.{One, one_of, stopped, walked_by, walk_on, walk_of}
+use Rattle.walk.specs.Walk.{Stopping, One, one_of, stopped, walked_by, walk_on, walk_of}
 use Rattle.walk.proofs.Steps.{StepOf, one_step}
 use Rattle.printout.specs.Text.{stop_text}
 use Rattle.printed.specs.declared.Printed.{Printed}
@@ -39,11 +38,11 @@ as_walked s count bytes =
     one_more (One.refused n) = unfold by_one walked_by in refl
     one_more (One.took c after) = unfold by_one walked_by walk_on in refl
 
-    same-session : (t : Bool) → (cond t (last_line s count (stop_text count 10)) (by_one s count (one_of s bytes))).session ≡ (cond t (stopped s (Refused 10) 0) (walk_on 1 s bytes)).session
+    same-session : (t : Bool) → (cond t (last_line s count (stop_text count 10)) (by_one s count (one_of s bytes))).session ≡ (cond t (stopped s (Stopping.at_refusal 10) 0) (walk_on 1 s bytes)).session
     same-session true = refl
     same-session false = unfold walk_on in (one-session (one_of s bytes))
 
-    same_more : (t : Bool) → (cond t (last_line s count (stop_text count 10)) (by_one s count (one_of s bytes))).more ≡ eqb (cond t (stopped s (Refused 10) 0) (walk_on 1 s bytes)).taken 1
+    same_more : (t : Bool) → (cond t (last_line s count (stop_text count 10)) (by_one s count (one_of s bytes))).more ≡ eqb (cond t (stopped s (Stopping.at_refusal 10) 0) (walk_on 1 s bytes)).taken 1
     same_more true = refl
     same_more false = unfold walk_on in (one_more (one_of s bytes))
 

@@ -1,5 +1,5 @@
 // A record on lent rows: the printing program lends them from record to record.
-ghost use Rattle.std.specs.Prelude.{◌≡◌, false};
+ghost use Rattle.std.specs.Prelude.{◌≡◌, true, false};
 ghost use Rattle.record_form.specs.Record.{read_case};
 ghost use Rattle.trace_form.specs.ReadAs.{case_as};
 ghost use Rattle.session_record.specs.Loan.{memory_in};
@@ -53,10 +53,20 @@ fn adds(did: Result<Did, Refusal>, count: u64) -> Added
     match did {
         Ok(Did::Line(line, told)) => {
             let verdict = u64::from(told.verdict);
-            let text = printout::line(number, u8::from(line.output), line.action, line.stamp, verdict, told.open_count);
+            let text = printout::line(
+                number,
+                u8::from(line.output),
+                line.action,
+                line.stamp,
+                verdict,
+                told.open_count,
+            );
             next(number, text)
         }
-        Ok(Did::Gap(lost, stamp, _)) => next(number, printout::line(number, 2, lost, stamp, u64::from(Verdict::Blind), 0)),
+        Ok(Did::Gap(lost, stamp, _)) => next(
+            number,
+            printout::line(number, 2, lost, stamp, u64::from(Verdict::Blind), 0),
+        ),
         Ok(Did::Ended) => last(count, printout::end(count)),
         Err(refusal) => last(count, printout::stop(count, u64::from(refusal))),
     }

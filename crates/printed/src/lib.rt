@@ -59,25 +59,23 @@ pub fn size(first: u8) -> usize
 {
     let front = [first];
     let n = fields::field_at(&front, 0, 6);
-    (122 + 7 * n as usize).div_ceil(8)
+    property_form::form_bytes(n as usize)
 }
 
 // The property at the front of the bytes, and a fresh session for it: nothing is added behind the header, or the last line.
 pub fn begin(bytes: &[u8]) -> Printed
     ensures { result ≡ begun_of bytes.now }
 {
-    match property_form::read_property(bytes) {
-        Ok(p) => Printed {
-            text: Line::empty(),
-            session: session::fresh(p).session,
-            count: 0,
-            more: true,
-        },
-        Err(refusal) => Printed {
-            text: printout::stop(0, u64::from(refusal)),
-            session: session::fresh(property::none()).session,
-            count: 0,
-            more: false,
-        },
+    let read = property_form::read_property(bytes);
+    let more = read.is_ok();
+    let (text, property) = match read {
+        Ok(p) => (Line::empty(), p),
+        Err(refusal) => (printout::stop(0, u64::from(refusal)), property::none()),
+    };
+    Printed {
+        text,
+        session: session::fresh(property).session,
+        count: 0,
+        more,
     }
 }

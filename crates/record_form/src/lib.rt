@@ -1,10 +1,12 @@
 // The packed record of document 01: its reader, the rest behind it, and its writer.
 #![tactic(auto)]
 
-ghost use Rattle.std.specs.Prelude.{◌≡◌, true, false, ◌++◌, ◌+◌, ◌≤◌, ◌<◌, length, drop, eqb};
+ghost use Rattle.std.specs.Prelude.{◌≡◌, true, ◌++◌, ◌+◌, ◌-◌, ◌≤◌, ◌<◌, length, drop, eqb, MatchResult};
+ghost use Rattle.meaning.specs.Limits.{last_stamp};
+ghost use Rattle.outcomes.specs.declared.Refusal.TheVariants.{StampTooLate};
 ghost use Rattle.outcomes.specs.Numbers.{refusal_in};
 ghost use Rattle.fields.specs.Rest.{Rest};
-ghost use Rattle.record_form.specs.Record.{record_size, numbers, read_case, taken, answered, broken, fields_refusal, IsRead, bytes_read, write_refusal, record_form, IsWritten};
+ghost use Rattle.record_form.specs.Record.{record_size, numbers, read_case, taken, answered, broken, stamp_above, fields_refusal, IsRead, bytes_read, write_refusal, record_form, IsWritten};
 
 use limits::{LAST_ACTION, LAST_STAMP};
 use outcomes::Refusal;
@@ -35,25 +37,30 @@ fn is_broken(kind: u64, action: u8, later: bool) -> bool
     }
 }
 
-// The record that these fields are, by its kind; the sum of the stamps may be past what a number holds.
+// The stamp that lies so much behind the one before. That one, or the sum, may be past the limit.
+fn stamp_behind(before: u64, less: u64) -> Result<u64, Refusal>
+    ensures { MatchResult result (λ stamp. (stamp ≡ before + less) × (before ≤ last_stamp) × (less ≤ last_stamp - before))
+        (λ refusal. (refusal ≡ StampTooLate) × (stamp_above (before + less) before ≡ true)) }
+{
+    if LAST_STAMP < before || LAST_STAMP - before < less {
+        return Err(Refusal::StampTooLate);
+    }
+    Ok(before + less)
+}
+
+// The record that these fields are, by its kind, each with its own rules.
 pub fn record_of(kind: u64, action: u8, less: u64, before: u64) -> Result<Record, Refusal>
     requires { kind < 4 }
     ensures { numbers (read_case result) ≡ answered (fields_refusal kind action less before) (taken kind action (before + less)) }
 {
-    if is_broken(kind, action, less != 0) {
-        return Err(Refusal::Broken);
-    }
-    if LAST_STAMP < before || LAST_STAMP - before < less {
-        return Err(Refusal::StampTooLate);
-    }
-    let stamp = before + less;
-    Ok(match kind {
-        0 => Record::Input(action, stamp),
-        1 => Record::Output(action, stamp),
-        2 => Record::Gap(action, stamp),
+    match kind {
+        0 => Ok(Record::Input(action, stamp_behind(before, less)?)),
+        1 => Ok(Record::Output(action, stamp_behind(before, less)?)),
+        2 => Ok(Record::Gap(action, stamp_behind(before, less)?)),
         // 3: two bits hold no other.
-        _ => Record::End(stamp),
-    })
+        _ if action != 0 || less != 0 => Err(Refusal::Broken),
+        _ => Ok(Record::End(stamp_behind(before, less)?)),
+    }
 }
 
 // Reads one record from the front of `s`; `before` is the stamp before it.

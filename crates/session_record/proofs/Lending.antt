@@ -14,7 +14,7 @@ use Rattle.session_record.specs.declared.Session.{Session}
 use Rattle.session_record.specs.declared.Told.{Told}
 use Rattle.session_record.specs.declared.Stepped.{Stepped}
 use Rattle.session_record.specs.Record.{rows_of, out_of_range}
-use Rattle.session_record.specs.Step.{Stepping, answer_in, stepping_in, stepped_of}
+use Rattle.session_record.specs.Step.{answer_in, stepping_in, stepped_of}
 use Rattle.session_record.specs.Lent.{Memory, memory, memory_of, record_in, Ready, Advanced}
 use Rattle.session_record.proofs.Ready.{lent-ready, by_value_taken, by_value_refused}
 

@@ -1,9 +1,8 @@
 -- What a call answers and gives back is told whole by its numbers.
-use Rattle.std.specs.Prelude.{ℕ, Result, Ok, Err}
+use Rattle.std.specs.Prelude.{Result, Ok, Err}
 use mathlib.Core.Path.{◌≡◌, sym, ap}
 use Rattle.outcomes.specs.declared.Refusal.{Refusal}
 use Rattle.outcomes.proofs.Same.{same_refusal, refusal_not_0, same_verdict}
-use Rattle.session_record.specs.declared.Session.{Session}
 use Rattle.session_record.specs.declared.Told.{Told}
 use Rattle.session_record.specs.declared.Stepped.{Stepped}
 use Rattle.session_record.specs.Step.{Answer, Stepping, answer_in, stepping_in}

@@ -4,7 +4,7 @@ use Rattle.meaning.specs.Limits.{last_stamp}
 use Rattle.meaning.specs.Numbers.{property_refusal}
 use Rattle.meaning.specs.Calls.{Call, fresh_clock}
 use Rattle.meaning.specs.Matcher.{Lengths}
-use Rattle.meaning.specs.Step.{Front, Cuts}
+use Rattle.meaning.specs.Step.{Cuts}
 use Rattle.property.specs.Meant.{meant}
 use Rattle.property.specs.declared.Property.{Property}
 use Rattle.matcher.specs.declared.Cut.{Cut}
@@ -15,8 +15,7 @@ use Rattle.rows.specs.Rows.{spanning, none, word, Within, Room}
 use Rattle.clock.specs.declared.Clock.{Clock}
 use Rattle.clock.specs.Time.{stored_clock}
 use Rattle.held.specs.declared.Status.{Status}
-use Rattle.cuts.specs.Steps.{front_says, says}
-use Rattle.cuts.specs.Fronts.{cut_at, Holds}
+use Rattle.cuts.specs.Fronts.{cut_at}
 use Rattle.session_record.specs.declared.Session.{Session}
 use Rattle.session_record.specs.declared.Pair.{Pair}
 use Rattle.session_record.specs.Record.{rows_of, cuts_in, record_of}

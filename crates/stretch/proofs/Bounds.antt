@@ -27,11 +27,8 @@ use Rattle.session_record.specs.declared.Session.{Session}
 use Rattle.session_record.specs.Record.{latest_of, blind_of, cuts_of, record_of, out_of_range}
 use Rattle.session_record.specs.Step.{stepped_of, refusal_of, standing}
 use Rattle.session_record.proofs.Steps.{answer-refusal}
-use Rattle.walk.specs.declared.Stop.{Stop}
-use Rattle.walk.specs.declared.Stop.TheVariants.{Budget, End, Refused}
-use Rattle.walk.specs.Walk.{Walk, One, one_call, one_read, one_of, walked_by, walk_on}
-use Rattle.stretch.specs.declared.Judged.{Judged}
-use Rattle.stretch.specs.Judge.{refused, by_stop, walked, trace_judged, by_property, judge_of}
+use Rattle.walk.specs.Walk.{Stopping, Walk, One, one_call, one_read, one_of, walked_by, walk_on}
+use Rattle.stretch.specs.Judge.{Judging, refused, by_stop, walked, trace_judged, by_property, judge_of}
 
 first-le : (m x y : ℕ) → x ≤ m → y ≤ m → first_of x y ≤ m
 first-le m zero y h k = k
@@ -93,10 +90,10 @@ OneLe One.ended = Unit {0}
 OneLe (One.refused n) = n ≤ 10
 OneLe (One.took c after) = Unit {0}
 
-abbrev StopLe : Stop → Type 0
-StopLe Budget = Unit {0}
-StopLe End = Unit {0}
-StopLe (Refused n) = n ≤ 10
+abbrev StopLe : Stopping → Type 0
+StopLe Stopping.at_budget = Unit {0}
+StopLe Stopping.at_end = Unit {0}
+StopLe (Stopping.at_refusal n) = n ≤ 10
 
 one-le : (s : Session) (bytes : List ℕ) → OneLe (one_of s bytes)
 one-le s bytes = go (read_as answer) (λ n e. subst (λ (m : ℕ). m ≤ 10) (refused-given answer n e).1 (record_le bytes (latest_of s)))
@@ -130,19 +127,19 @@ verdict-le Verdict.suspect = omega arith
 verdict-le Verdict.certain = omega arith
 verdict-le Verdict.blind = omega arith
 
-pub record Bounded (j : Judged) : Type 0 where
+pub record Bounded (j : Judging) : Type 0 where
   pub refusal_small : j.refusal ≤ 10
   pub verdict_small : j.verdict ≤ 3
 
 refused_small : (n : ℕ) → n ≤ 10 → Bounded (refused n)
 refused_small n h = record { refusal_small = h; verdict_small = omega arith }
 
-stop_small : (stop : Stop) → StopLe stop → (behind : Bool) (w : Walk) → Bounded (by_stop stop behind w)
+stop_small : (stop : Stopping) → StopLe stop → (behind : Bool) (w : Walk) → Bounded (by_stop stop behind w)
 unfolding by_stop standing
-stop_small Budget h behind w = refused_small 7 (omega arith)
-stop_small (Refused n) h behind w = refused_small n h
-stop_small End h true w = refused_small 8 (omega arith)
-stop_small End h false w =
+stop_small Stopping.at_budget h behind w = refused_small 7 (omega arith)
+stop_small (Stopping.at_refusal n) h behind w = refused_small n h
+stop_small Stopping.at_end h true w = refused_small 8 (omega arith)
+stop_small Stopping.at_end h false w =
     record {
       refusal_small = omega arith;
       verdict_small = verdict-le (verdict_by w.session.property (cuts_of w.session));
@@ -157,10 +154,7 @@ judge_small property trace =
     p : Property
     p = (read property).property
 
-    go : (n : ℕ) → n ≤ 10 → (behind : Bool) (j : Judged) → Bounded j → Bounded (by_property n behind j)
+    go : (n : ℕ) → n ≤ 10 → (behind : Bool) (j : Judging) → Bounded j → Bounded (by_property n behind j)
     go zero h true j k = unfold by_property in (refused_small 8 (omega arith))
     go zero h false j k = unfold by_property in k
     go (suc n) h behind j k = unfold by_property in (refused_small (suc n) h)
-
-pub judged_small : (property trace : List ℕ) (j : Judged) → j ≡ judge_of property trace → Bounded j
-judged_small property trace j e = subst Bounded (sym e) (judge_small property trace)

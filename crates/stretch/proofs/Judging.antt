@@ -1,35 +1,35 @@
 -- How the judge's parts come together.
 use Prim.Native.Nat.{ℕ, zero, suc, ◌+◌, ◌*◌, ◌≤◌, ◌<◌}
-use mathlib.Core.Path.{◌≡◌, refl, sym, ◌∙◌, ap}
-use mathlib.Core.Bool.{Bool, true, false, cond}
+use mathlib.Core.Path.{◌≡◌, refl, sym, ◌∙◌, ap, subst}
+use mathlib.Core.Bool.{Bool, cond}
 use mathlib.Core.List.{List}
 use native.Mathlib.Omega.{arith}
 use lib.ListN.{length}
 use lib.Dec.{ltb}
 use borrow.Author.Tests.{lt-ltb, le-ltb}
-use Rattle.meaning.specs.Node.{Verdict, verdict_number}
+use Rattle.meaning.specs.Node.{verdict_number}
 use Rattle.meaning.specs.Matcher.{Lengths}
 use Rattle.meaning.specs.Numbers.{property_refusal}
-use Rattle.meaning.specs.Step.{Front, Cuts}
+use Rattle.meaning.specs.Step.{Cuts}
+use Rattle.outcomes.specs.declared.Verdict.{Verdict}
+use Rattle.outcomes.specs.Numbers.{verdict_meant, number_told}
 use Rattle.property.specs.Meant.{meant}
 use Rattle.property.specs.declared.Property.{Property}
 use Rattle.property.proofs.Refusal.{taken_bounds}
-use Rattle.property_form.specs.declared.PropertyRead.{PropertyRead}
 use Rattle.property_form.specs.Form.{form_size}
-use Rattle.property_form.specs.Read.{property_read, read, read_refusal, taken}
+use Rattle.property_form.specs.Read.{PropertyRead, property_read, read, read_refusal, taken}
 use Rattle.property_form.proofs.Answers.{refusal-read, property_of_read, read_good, taken-all}
-use Rattle.cuts.specs.Steps.{front_none, front_says, fresh_by, verdict_by}
-use Rattle.cuts.specs.Fronts.{front_of}
+use Rattle.rows.specs.declared.Span.{Span}
+use Rattle.rows.specs.Rows.{Within, Room}
+use Rattle.cuts.specs.Steps.{fresh_by, verdict_by}
 use Rattle.session_record.specs.declared.Session.{Session}
-use Rattle.session_record.specs.Record.{record_of}
-use Rattle.session_record.specs.Lent.{Memory, record_in, Ready}
-use Rattle.session_record.specs.Step.{standing}
-use Rattle.session_record.proofs.Ready.{ready-stands}
-use Rattle.walk.specs.declared.Stop.{Stop}
-use Rattle.walk.specs.declared.Stop.TheVariants.{Budget, End, Refused}
-use Rattle.walk.specs.Walk.{Walk, walk_on}
-use Rattle.stretch.specs.declared.Judged.{Judged}
-use Rattle.stretch.specs.Judge.{refused, ended, by_stop, trace_judged, by_property, judge_of, in_one, one_number}
+use Rattle.session_record.specs.declared.Stepped.{Stepped}
+use Rattle.session_record.specs.Record.{rows_of, record_of}
+use Rattle.session_record.specs.Lent.{Memory, memory, held_in, record_in, Ready}
+use Rattle.session_record.specs.Step.{fresh_of, stepping_in, standing}
+use Rattle.session_record.proofs.Ready.{ready-stands, fresh_means, fresh-ready}
+use Rattle.walk.specs.Walk.{Stopping, Walk, walk_on}
+use Rattle.stretch.specs.Judge.{Judging, refused, ended, by_stop, trace_judged, by_property, judge_of, in_one, one_number}
 
 -- The judgement, by what the walk over the trace came to, on rows that mean a fresh session.
 module _ (p : Property) (trace : List ℕ) (s : Session) (e : s ≡ record_of p (fresh_by p)) (w : Walk) (h : walk_on (length trace) s trace ≡ w) where
@@ -39,24 +39,24 @@ module _ (p : Property) (trace : List ℕ) (s : Session) (e : s ≡ record_of p 
       (ap (λ (x : Session). walk_on (length trace) x trace) (sym e) ∙ h)
 
   -- each way to stop
-  stopped_by : (stop : Stop) → w.stop ≡ stop → trace_judged p trace ≡ by_stop stop (ltb w.read (length trace)) w
-  stopped_by stop q = judged_by ∙ ap (λ (x : Stop). by_stop x (ltb w.read (length trace)) w) q
+  stopped_by : (stop : Stopping) → w.stop ≡ stop → trace_judged p trace ≡ by_stop stop (ltb w.read (length trace)) w
+  stopped_by stop q = judged_by ∙ ap (λ (x : Stopping). by_stop x (ltb w.read (length trace)) w) q
 
-  pub judged_budget : w.stop ≡ Budget → trace_judged p trace ≡ refused 7
+  pub judged_budget : w.stop ≡ Stopping.at_budget → trace_judged p trace ≡ refused 7
   unfolding by_stop
-  judged_budget q = stopped_by Budget q
+  judged_budget q = stopped_by Stopping.at_budget q
 
-  pub judged-refused : (n : ℕ) → w.stop ≡ Refused n → trace_judged p trace ≡ refused n
+  pub judged-refused : (n : ℕ) → w.stop ≡ Stopping.at_refusal n → trace_judged p trace ≡ refused n
   unfolding by_stop
-  judged-refused n q = stopped_by (Refused n) q
+  judged-refused n q = stopped_by (Stopping.at_refusal n) q
 
-  pub judged-behind : w.stop ≡ End → w.read < length trace → trace_judged p trace ≡ refused 8
+  pub judged-behind : w.stop ≡ Stopping.at_end → w.read < length trace → trace_judged p trace ≡ refused 8
   unfolding by_stop
-  judged-behind q lt = stopped_by End q ∙ ap (λ (t : Bool). ended t w) (lt-ltb w.read (length trace) lt)
+  judged-behind q lt = stopped_by Stopping.at_end q ∙ ap (λ (t : Bool). ended t w) (lt-ltb w.read (length trace) lt)
 
-  pub judged-ended : w.stop ≡ End → length trace ≤ w.read → ◌≡◌ {A = Judged} (trace_judged p trace) (record { refusal = 0; verdict = standing w.session; count = w.taken })
+  pub judged-ended : w.stop ≡ Stopping.at_end → length trace ≤ w.read → ◌≡◌ {A = Judging} (trace_judged p trace) (record { refusal = 0; verdict = standing w.session; count = w.taken })
   unfolding by_stop
-  judged-ended q le = stopped_by End q ∙ ap (λ (t : Bool). ended t w) (le-ltb w.read (length trace) le)
+  judged-ended q le = stopped_by Stopping.at_end q ∙ ap (λ (t : Bool). ended t w) (le-ltb w.read (length trace) le)
 
 -- the property first
 pub property-refused : (property trace : List ℕ) (r : PropertyRead) → r ≡ read property → (r.refusal ≡ 0 → ⊥) → judge_of property trace ≡ refused r.refusal
@@ -108,29 +108,28 @@ module _ (property trace : List ℕ) (r : PropertyRead) (e : r ≡ read property
       (ap (λ (m : ℕ). ltb m (length property)) (taken-size ∙ sym d) ∙ le-ltb size (length property) h)
       ∙ ap (λ (x : PropertyRead). trace_judged x.property trace) (sym e)
 
--- the verdict standing
-module _ (m : Memory) (ready : Ready m) where
-  abbrev own : Front Lengths
-  own = front_of m.rows m.status.span 0
+-- What is lent of a fresh session.
+module _ (p : Property) (good : property_refusal (meant p) ≡ 0) (r : Stepped) (e : stepping_in r ≡ fresh_of p) (q : Property) (own : q ≡ p)
+    (rows : List (List ℕ)) (same : rows ≡ rows_of r.session) where
+  pub fresh_begins : record_in (memory q rows r.session.shared.status) ≡ record_of p (fresh_by p)
+  fresh_begins =
+      ap (λ (x : Property). record_in (memory x rows r.session.shared.status)) own
+      ∙ fresh_means p good (stepping_in r) e rows same
 
-  standing_if : (b : Bool) → m.status.clock.blind ≡ b
-      → verdict_number (cond b Verdict.blind (front_says m.property (cond b (front_none m.property) own))) ≡ standing (record_in m)
-  unfolding standing
-  standing_if b e =
-      ap (λ (t : Bool). verdict_number (cond t Verdict.blind (front_says m.property (cond t (front_none m.property) own)))) (sym e)
-      ∙ ap (λ (c : Cuts Lengths). verdict_number (verdict_by m.property c)) (sym (ready-stands m ready))
+  pub fresh_lends : ((span : Span) → Within span → Room rows span) → Ready (memory q rows r.session.shared.status)
+  fresh_lends rooms =
+      subst (λ (x : Property). Ready (memory x rows r.session.shared.status)) (sym own) (fresh-ready p good (stepping_in r) e rows same rooms)
 
-  pub standing-blind : m.status.clock.blind ≡ true → 3 ≡ standing (record_in m)
-  standing-blind e = standing_if true e
-
-  pub standing_open : m.status.clock.blind ≡ false → verdict_number (front_says m.property own) ≡ standing (record_in m)
-  standing_open e = standing_if false e
+-- The verdict that stands on what is lent is that of the record that is made of it.
+pub standing_lent : (m : Memory) → Ready m → (v : Verdict) → verdict_meant v ≡ verdict_by m.property (held_in m) → number_told v ≡ standing (record_in m)
+unfolding standing
+standing_lent m ready v e = ap verdict_number e ∙ ap (λ (c : Cuts Lengths). verdict_number (verdict_by m.property c)) (sym (ready-stands m ready))
 
 -- the one number
-pub one-long : (j : Judged) → 16_383 < j.count → 9 * 65_536 ≡ one_number j
+pub one-long : (j : Judging) → 16_383 < j.count → 9 * 65_536 ≡ one_number j
 unfolding one_number
 one-long j h = sym (ap (λ (t : Bool). cond t (in_one 9 0 0) (in_one j.refusal j.verdict j.count)) (lt-ltb 16_383 j.count h))
 
-pub one_short : (j : Judged) → j.count ≤ 16_383 → j.refusal * 65_536 + j.verdict * 16_384 + j.count ≡ one_number j
+pub one_short : (j : Judging) → j.count ≤ 16_383 → j.refusal * 65_536 + j.verdict * 16_384 + j.count ≡ one_number j
 unfolding one_number
 one_short j h = sym (ap (λ (t : Bool). cond t (in_one 9 0 0) (in_one j.refusal j.verdict j.count)) (le-ltb 16_383 j.count h))

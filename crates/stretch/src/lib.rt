@@ -11,7 +11,7 @@ use outcomes::{Refusal, Verdict};
 use property::Property;
 use session_record::{Lent, rows_of};
 use table::Steps;
-use walk::Stop;
+use walk::{Stop, Went};
 
 // "the count at most 16,383"
 const MOST_COUNTED: usize = 16383;
@@ -39,16 +39,18 @@ fn trace_verdict(p: Property, trace: &[u8]) -> Result<Judged, Refusal>
         rows: &mut rows,
         status: s.shared.status,
     };
-    let went = walk::records(&mut lent, trace, trace.len());
-    match went.stop {
+    let Went {
+        taken, stop, read, ..
+    } = walk::records(&mut lent, trace, trace.len());
+    match stop {
         Stop::Budget => Err(Refusal::TooShort),
         Stop::End => {
-            if went.read < trace.len() {
+            if read < trace.len() {
                 return Err(Refusal::Broken);
             }
             Ok(Judged {
                 verdict: answers::standing(&lent),
-                count: went.taken,
+                count: taken,
             })
         }
         Stop::Refused(refusal) => Err(refusal),
@@ -63,7 +65,7 @@ pub fn judge(property: &[u8], trace: &[u8]) -> Result<Judged, Refusal>
     if property_form::form_bytes(p.n) < property.len() {
         return Err(Refusal::Broken);
     }
-    trace_verdict(read.property, trace)
+    trace_verdict(p, trace)
 }
 
 // The same in one number, for C: refusal × 65,536 + verdict × 16,384 + count.

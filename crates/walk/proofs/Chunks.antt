@@ -10,9 +10,7 @@ use Rattle.meaning.specs.Calls.{Call}
 use Rattle.session_record.specs.declared.Session.{Session}
 use Rattle.session_record.specs.Record.{out_of_range}
 use Rattle.session_record.proofs.Steps.{stays_in_range}
-use Rattle.walk.specs.declared.Stop.{Stop}
-use Rattle.walk.specs.declared.Stop.TheVariants.{Budget, End, Refused}
-use Rattle.walk.specs.Walk.{Walk, Walking, stop_number, stop_refusal, walk_on, last_lost, some_gap, walk_answer, budget_of, walk_of}
+use Rattle.walk.specs.Walk.{Stopping, Walk, Walking, stop_number, stop_refusal, walk_on, last_lost, some_gap, walk_answer, budget_of, walk_of}
 use Rattle.walk.proofs.Steps.{Steps, none, more, walk_exactly, then, GoesOn, two_walks, spaced}
 use Rattle.walk.proofs.Lost.{last-append, last_by_gap}
 use Rattle.walk.proofs.Going.{walk-taken}
@@ -47,10 +45,10 @@ GoesOnBy zero second = Unit {0}
 GoesOnBy (suc zero) second = ⊥
 GoesOnBy (suc (suc other)) second = 1 ≤ second
 
-goes_on : (stop : Stop) (second : ℕ) → GoesOnBy (stop_number stop) second → GoesOn stop second
-goes_on Budget second h = tt
-goes_on End second h = h
-goes_on (Refused n) second h = h
+goes_on : (stop : Stopping) (second : ℕ) → GoesOnBy (stop_number stop) second → GoesOn stop second
+goes_on Stopping.at_budget second h = tt
+goes_on Stopping.at_end second h = h
+goes_on (Stopping.at_refusal n) second h = h
 
 -- A walk that stopped at its budget or at a refusal, followed by a walk over its rest, is the one walk of the two budgets.
 pub chunks : (b₁ b₂ : ℕ) (s : Session) (bytes : List ℕ) → b₁ + b₂ ≤ 4_096 → out_of_range s ≡ false → GoesOnBy (walk_of s bytes b₁).stop b₂

@@ -6,14 +6,15 @@ use native.Mathlib.Omega.{arith}
 use denote.Ref.{Bor}
 use Rattle.fields.specs.Rest.{Rest}
 use Rattle.fields.proofs.Determined.{rest_determined}
+use Rattle.outcomes.proofs.Same.{same_refusal}
 use Rattle.session_record.specs.declared.Session.{Session}
 use Rattle.walk.specs.declared.Walked.{Walked}
 use Rattle.walk.specs.declared.Stop.{Stop}
 use Rattle.walk.specs.declared.Stop.TheVariants.{Budget, End, Refused}
-use Rattle.walk.specs.Walk.{Walking, stop_number, stop_refusal, in_numbers, walk_of}
+use Rattle.walk.specs.Walk.{Walking, stop_in, stop_number, stop_refusal, in_numbers, walk_of}
 
 -- an answer is told by its numbers
-stop-told : (a b : Stop) → stop_number a ≡ stop_number b → stop_refusal a ≡ stop_refusal b → a ≡ b
+stop-told : (a b : Stop) → stop_number (stop_in a) ≡ stop_number (stop_in b) → stop_refusal (stop_in a) ≡ stop_refusal (stop_in b) → a ≡ b
 stop-told Budget Budget e f = refl
 stop-told Budget End e f = let z : ⊥ = omega arith in absurd z
 stop-told Budget (Refused n) e f = let z : ⊥ = omega arith in absurd z
@@ -22,7 +23,7 @@ stop-told End End e f = refl
 stop-told End (Refused n) e f = let z : ⊥ = omega arith in absurd z
 stop-told (Refused m) Budget e f = let z : ⊥ = omega arith in absurd z
 stop-told (Refused m) End e f = let z : ⊥ = omega arith in absurd z
-stop-told (Refused m) (Refused n) e f = ap Refused f
+stop-told (Refused m) (Refused n) e f = ap Refused (same_refusal m n f)
 
 pub walk_determined : (s : Session) (bytes : List ℕ) (budget : ℕ) (r t : Walked) → in_numbers r ≡ walk_of s bytes budget → in_numbers t ≡ walk_of s bytes budget → r ≡ t
 walk_determined s bytes budget r t e f =

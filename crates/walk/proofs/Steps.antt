@@ -15,9 +15,7 @@ use Rattle.trace_form.proofs.ReadAs.{short_read}
 use Rattle.session_record.specs.declared.Session.{Session}
 use Rattle.session_record.specs.Record.{latest_of, out_of_range}
 use Rattle.session_record.specs.Step.{stepped_of}
-use Rattle.walk.specs.declared.Stop.{Stop}
-use Rattle.walk.specs.declared.Stop.TheVariants.{Budget, End, Refused}
-use Rattle.walk.specs.Walk.{Walk, One, one_call, one_read, one_of, stopped, one_more, walked_by, walk_on, walk_answer, budget_of, walk_of, rest_start}
+use Rattle.walk.specs.Walk.{Stopping, Walk, One, one_call, one_read, one_of, stopped, one_more, walked_by, walk_on, walk_answer, budget_of, walk_of, rest_start}
 
 -- ---- single steps
 
@@ -80,10 +78,10 @@ abbrev pub then : Walk → Walk → Walk
 then v w = record { taken = v.taken + w.taken; stop = w.stop; read = v.read + w.read; session = w.session }
 
 -- How the second walk stops after a first that stopped so.
-abbrev pub GoesOn : Stop → ℕ → Type 0
-GoesOn Budget second = Unit {0}
-GoesOn End second = ⊥
-GoesOn (Refused n) second = 1 ≤ second
+abbrev pub GoesOn : Stopping → ℕ → Type 0
+GoesOn Stopping.at_budget second = Unit {0}
+GoesOn Stopping.at_end second = ⊥
+GoesOn (Stopping.at_refusal n) second = 1 ≤ second
 
 one_more_then : (v w : Walk) → one_more (then v w) ≡ then (one_more v) w
 one_more_then v w =
@@ -91,11 +89,11 @@ one_more_then v w =
     let r : record_size + (v.read + w.read) ≡ record_size + v.read + w.read = omega arith in
     λ i. record { taken = t i; stop = w.stop; read = r i; session = w.session }
 
-refused_is : (n : ℕ) (s : Session) (f : Session → Walk) → walked_by (One.refused n) s f ≡ stopped s (Refused n) 0
+refused_is : (n : ℕ) (s : Session) (f : Session → Walk) → walked_by (One.refused n) s f ≡ stopped s (Stopping.at_refusal n) 0
 unfolding walked_by
 refused_is n s f = refl
 
-nothing_then : (s : Session) (stop : Stop) (w : Walk) → w ≡ then (stopped s stop 0) w
+nothing_then : (s : Session) (stop : Stopping) (w : Walk) → w ≡ then (stopped s stop 0) w
 nothing_then s stop w =
     let t : w.taken ≡ 0 + w.taken = omega arith in
     let r : w.read ≡ 0 + w.read = omega arith in
@@ -107,7 +105,7 @@ pub two_walks : (b₁ b₂ : ℕ) (s : Session) (bytes : List ℕ) → GoesOn (w
     ≡ then (walk_on b₁ s bytes) (walk_on b₂ (walk_on b₁ s bytes).session (drop (walk_on b₁ s bytes).read bytes))
 unfolding walk_on
 two_walks zero b₂ s bytes g =
-    let e : 0 + b₂ ≡ b₂ = omega arith in ap (λ (b : ℕ). walk_on b s bytes) e ∙ nothing_then s Budget (walk_on b₂ s bytes)
+    let e : 0 + b₂ ≡ b₂ = omega arith in ap (λ (b : ℕ). walk_on b s bytes) e ∙ nothing_then s Stopping.at_budget (walk_on b₂ s bytes)
 two_walks (suc b₁) b₂ s bytes g =
     ap (λ (b : ℕ). walk_on b s bytes) sum-suc
     ∙ go (one_of s bytes) refl g (λ after k. two_walks b₁ b₂ after (drop record_size bytes) k)
@@ -115,7 +113,7 @@ two_walks (suc b₁) b₂ s bytes g =
     sum-suc : suc b₁ + b₂ ≡ suc (b₁ + b₂)
     sum-suc = omega arith
 
-    again : (n b : ℕ) → 1 ≤ b → one_of s bytes ≡ One.refused n → walk_on b s bytes ≡ stopped s (Refused n) 0
+    again : (n b : ℕ) → 1 ≤ b → one_of s bytes ≡ One.refused n → walk_on b s bytes ≡ stopped s (Stopping.at_refusal n) 0
     again n zero h e = let z : ⊥ = omega arith in absurd z
     again n (suc b) h e = ap (λ (o : One). walked_by o s (λ after. walk_on b after (drop record_size bytes))) e ∙ refused_is n s (λ after. walk_on b after (drop record_size bytes))
 
@@ -130,7 +128,7 @@ two_walks (suc b₁) b₂ s bytes g =
         (walk_on b₂ (walked_by o s (λ after. walk_on b₁ after (drop record_size bytes))).session
         (drop (walked_by o s (λ after. walk_on b₁ after (drop record_size bytes))).read bytes))
     go One.ended e k ih = absurd (unfold walked_by in k)
-    go (One.refused n) e k ih = unfold walked_by in (nothing_then s (Refused n) (stopped s (Refused n) 0) ∙ ap (then (stopped s (Refused n) 0)) (sym (again n b₂ (unfold walked_by in k) e)))
+    go (One.refused n) e k ih = unfold walked_by in (nothing_then s (Stopping.at_refusal n) (stopped s (Stopping.at_refusal n) 0) ∙ ap (then (stopped s (Stopping.at_refusal n) 0)) (sym (again n b₂ (unfold walked_by in k) e)))
     go (One.took c after) e k ih =
         unfold walked_by in
         (ap one_more (ih after (unfold walked_by in k))
@@ -161,9 +159,9 @@ short_refused : (s : Session) (bytes : List ℕ) → length bytes < record_size 
 unfolding one_read
 short_refused s bytes h = ap (one_read s) (short_read bytes (latest_of s) h)
 
-pub data NotBudget : Stop → Type 0 where
-  at_end : NotBudget End
-  at-refusal : (n : ℕ) → NotBudget (Refused n)
+pub data NotBudget : Stopping → Type 0 where
+  at_end : NotBudget Stopping.at_end
+  at-refusal : (n : ℕ) → NotBudget (Stopping.at_refusal n)
 
 -- With a budget of more records than the bytes can hold a walk stops at an end record or at a refusal.
 pub budget_enough : (budget : ℕ) (s : Session) (bytes : List ℕ) → length bytes < record_size * budget → NotBudget (walk_on budget s bytes).stop
@@ -217,8 +215,8 @@ pub rest_behind : (s : Session) (bytes : List ℕ) (budget : ℕ) → rest_start
 unfolding walk_of
 rest_behind s bytes budget = le-start (out_of_range s)
   where
-    le-start : (b : Bool) → rest_start (length bytes) (walk_answer bytes (cond b (stopped s (Refused 10) 0) (walk_on (budget_of budget) s bytes))).read
-        ≡ (walk_answer bytes (cond b (stopped s (Refused 10) 0) (walk_on (budget_of budget) s bytes))).read
+    le-start : (b : Bool) → rest_start (length bytes) (walk_answer bytes (cond b (stopped s (Stopping.at_refusal 10) 0) (walk_on (budget_of budget) s bytes))).read
+        ≡ (walk_answer bytes (cond b (stopped s (Stopping.at_refusal 10) 0) (walk_on (budget_of budget) s bytes))).read
     le-start true = ap (λ (t : Bool). cond t 0 0) (le-ltb (length bytes) 0 (omega arith))
     le-start false =
         ap (λ (t : Bool). cond t 0 (walk_on (budget_of budget) s bytes).read)

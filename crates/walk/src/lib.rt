@@ -58,19 +58,18 @@ pub fn records(lent: &mut Lent<'_>, trace: &[u8], budget: usize) -> Went
     for taken in 0..budget {
         let read = record_form::read_record(&trace[at..], lent.status.clock.latest);
         match one_record::take(lent, read) {
-            Ok(Did::Line(_, _)) => at += RECORD_SIZE,
-            Ok(Did::Gap(number, _, _)) => {
-                at += RECORD_SIZE;
-                lost = number;
-            }
-            Ok(Did::Ended) => {
-                return Went {
-                    taken,
-                    stop: Stop::End,
-                    read: at + RECORD_SIZE,
-                    lost,
-                };
-            }
+            Ok(did) => match did {
+                Did::Line(_, _) => {}
+                Did::Gap(number, _, _) => lost = number,
+                Did::Ended => {
+                    return Went {
+                        taken,
+                        stop: Stop::End,
+                        read: at + RECORD_SIZE,
+                        lost,
+                    };
+                }
+            },
             Err(refusal) => {
                 return Went {
                     taken,
@@ -80,6 +79,7 @@ pub fn records(lent: &mut Lent<'_>, trace: &[u8], budget: usize) -> Went
                 };
             }
         }
+        at += RECORD_SIZE;
     }
     Went {
         taken: budget,

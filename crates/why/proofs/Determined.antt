@@ -1,4 +1,5 @@
 -- The promise determines the whole answer and every place of every list: two results allowed by it are equal.
+use Rattle.std.specs.Prelude.{Result, Ok, Err}
 use Prim.Native.Nat.{ℕ, zero, suc}
 use mathlib.Core.Path.{◌≡◌, refl, sym, ap, ap₂, ◌∙◌, subst}
 use mathlib.Core.List.{List}
@@ -13,9 +14,12 @@ use Rattle.reasons.specs.Reasons.{Earliest, lines_refusal, line_numbers}
 use Rattle.reasons.proofs.First.{first_unique}
 use Rattle.reasons.proofs.Earliest.{earliest_unique}
 use Rattle.reasons.proofs.Reached.{one-verdict, reached_unique}
+use Rattle.outcomes.specs.declared.Refusal.{Refusal}
+use Rattle.outcomes.proofs.Same.{same_refusal, refusal_not_0, same_verdict}
 use Rattle.property.specs.Meant.{meant}
 use Rattle.property.specs.declared.Property.{Property}
 use Rattle.judged_rest.specs.declared.Reason.{Reason}
+use Rattle.judged_rest.specs.Judged.{Reasoning, reason_in}
 use Rattle.judged_rest.specs.Lent.{Lines, count, run_of}
 use Rattle.first_order.specs.Search.{Pair, pair}
 use Rattle.why.specs.Why.{uneven, why_refusal, over, Shows, ShowsBy, ReasonBy, IsReason}
@@ -50,10 +54,19 @@ one-order Verdict.suspect p run l l2 m m2 m' m2' s s' = (one-shown p run _ l m m
 one-order Verdict.certain p run l l2 m m2 m' m2' s s' = (one-shown p run _ l m m' s.0 s'.0, s.1 ∙ sym s'.1)
 one-order Verdict.blind p run l l2 m m2 m' m2' s s' = absurd s
 
-pub explain_determined : (p : Property) (ls : Lines) (l l2 : Pair) (r r' : Reason) (m m2 m' m2' : Pair) → IsReason p ls r l l2 m m2 → IsReason p ls r' l l2 m' m2'
+-- numbers tell a reason or a refusal whole
+pub same_reason : (r r' : Result Reason Refusal) → reason_in r ≡ reason_in r' → r ≡ r'
+same_reason (Ok a) (Ok b) e =
+    let v : a.verdict ≡ b.verdict = same_verdict a.verdict b.verdict (ap (λ (x : Reasoning). x.verdict) e) in
+    λ i. Ok (record { verdict = v i; line = (e i).line })
+same_reason (Ok a) (Err b) e = absurd (refusal_not_0 b (sym (ap (λ (x : Reasoning). x.refusal) e)))
+same_reason (Err a) (Ok b) e = absurd (refusal_not_0 a (ap (λ (x : Reasoning). x.refusal) e))
+same_reason (Err a) (Err b) e = ap Err (same_refusal a b (ap (λ (x : Reasoning). x.refusal) e))
+
+told_determined : (p : Property) (ls : Lines) (l l2 : Pair) (r r' : Reasoning) (m m2 m' m2' : Pair) → IsReason p ls r l l2 m m2 → IsReason p ls r' l l2 m' m2'
     → (r ≡ r') × (m ≡ m') × (m2 ≡ m2')
 unfolding IsReason
-explain_determined p ls l l2 r r' m m2 m' m2' = go (why_refusal p ls l l2) refl
+told_determined p ls l l2 r r' m m2 m' m2' = go (why_refusal p ls l l2) refl
   where
     go : (n : ℕ) → why_refusal p ls l l2 ≡ n → ReasonBy n (meant p) (run_of ls) r l l2 m m2 → ReasonBy n (meant p) (run_of ls) r' l l2 m' m2' → (r ≡ r') × (m ≡ m') × (m2 ≡ m2')
     go (suc n) e h h' = (h.alone ∙ sym h'.alone, h.kept ∙ sym h'.kept, h.kept2 ∙ sym h'.kept2)
@@ -65,3 +78,8 @@ explain_determined p ls l l2 r r' m m2 m' m2' = go (why_refusal p ls l l2) refl
       where
         same : r.refusal ≡ r'.refusal → r.verdict ≡ r'.verdict → r.line ≡ r'.line → r ≡ r'
         same a b c = λ i. record { refusal = a i; verdict = b i; line = c i }
+
+pub explain_determined : (p : Property) (ls : Lines) (l l2 : Pair) (r r' : Result Reason Refusal) (m m2 m' m2' : Pair)
+    → IsReason p ls (reason_in r) l l2 m m2 → IsReason p ls (reason_in r') l l2 m' m2' → (r ≡ r') × (m ≡ m') × (m2 ≡ m2')
+explain_determined p ls l l2 r r' m m2 m' m2' h h' =
+    let t = told_determined p ls l l2 (reason_in r) (reason_in r') m m2 m' m2' h h' in (same_reason r r' t.0, t.1, t.2)

@@ -28,11 +28,10 @@ use Rattle.reasons.proofs.Search.{Fitting, found_first}
 use Rattle.property.specs.Meant.{meant}
 use Rattle.property.specs.declared.Property.{Property}
 use Rattle.matcher.proofs.Words.{set_back, start_short}
-use Rattle.judged_rest.specs.declared.Reason.{Reason}
 use Rattle.judged_rest.specs.Lent.{Lines, is_output, line_in, count, run_of}
 use Rattle.first_order.specs.Search.{Pair}
 use Rattle.why.specs.Why.{Shows, ShowsBy, TellsWhy, over}
-use Rattle.judged_rest.specs.Judged.{waits, judged, Judged}
+use Rattle.judged_rest.specs.Judged.{Reasoning, waits, judged, Judged}
 use Rattle.first_order.specs.Search.{kind_in, reaches, Sized, start, place, number_at, Found, Written}
 use Rattle.order_moments.specs.Moments.{moment_at}
 use Rattle.why.proofs.Left.{left, both_kinds, either_way}
@@ -173,26 +172,26 @@ module _ (p : Property) (good : property_refusal (meant p) ≡ 0) (ls : Lines) (
 
   -- the verdict that was judged, at any verdict of that number
   reach : (breaking : Bool) (w : ℕ) → verdict_number v ≡ w → reaches breaking w ≡ true → reaches breaking (judged p ls start (count ls)).told.verdict ≡ true
-  reach breaking w e h = subst (λ (n : ℕ). reaches breaking n ≡ true) (sym (ap (λ (r : Reason). r.verdict) told_is ∙ e)) h
+  reach breaking w e h = subst (λ (n : ℕ). reaches breaking n ≡ true) (sym (ap (λ (r : Reasoning). r.verdict) told_is ∙ e)) h
 
-  module _ (r : Reason) (judged-so : r ≡ (judged p ls start (count ls)).told) (l l2 m m2 : Pair) (ln : count ls ≤ length l.numbers) (lm : count ls ≤ length l.moments) where
+  module _ (r : Reasoning) (judged-so : r ≡ (judged p ls start (count ls)).told) (l l2 m m2 : Pair) (ln : count ls ≤ length l.numbers) (lm : count ls ≤ length l.moments) where
     is_told : r ≡ says (verdict_number v) t.line
     is_told = judged-so ∙ told_is
 
     answer : ShowsBy v (meant p) (run_of ls) l l2 m m2 → TellsWhy (meant p) (run_of ls) r l l2 m m2
     answer s =
         record {
-          taken = ap (λ (x : Reason). x.refusal) is_told;
+          taken = ap (λ (x : Reasoning). x.refusal) is_told;
           verdict = v;
           exact = exact;
-          told = ap (λ (x : Reason). x.verdict) is_told;
-          line = subst (ReachedAt (meant p) (run_of ls)) (sym (ap (λ (x : Reason). x.line) is_told)) t.reached;
+          told = ap (λ (x : Reasoning). x.verdict) is_told;
+          line = subst (ReachedAt (meant p) (run_of ls)) (sym (ap (λ (x : Reasoning). x.line) is_told)) t.reached;
           orders = s;
         }
 
     pub answer-suspect : r.verdict ≡ 1 → Written p ls (ltb 0 r.verdict) l m → count ls ≤ length l2.numbers → count ls ≤ length l2.moments → Written p ls false l2 m2
         → TellsWhy (meant p) (run_of ls) r l l2 m m2
-    answer-suspect one w ln2 lm2 w2 = answer (go v refl (sym (ap (λ (x : Reason). x.verdict) is_told) ∙ one))
+    answer-suspect one w ln2 lm2 w2 = answer (go v refl (sym (ap (λ (x : Reasoning). x.verdict) is_told) ∙ one))
       where
         go : (u : Verdict) → v ≡ u → verdict_number u ≡ 1 → ShowsBy u (meant p) (run_of ls) l l2 m m2
         go Verdict.clear e n = let z : ⊥ = omega arith in absurd z
@@ -205,7 +204,7 @@ module _ (p : Property) (good : property_refusal (meant p) ≡ 0) (ls : Lines) (
         )
 
     pub answer_other : (r.verdict ≡ 1 → ⊥) → Written p ls (ltb 0 r.verdict) l m → m2 ≡ l2 → TellsWhy (meant p) (run_of ls) r l l2 m m2
-    answer_other not-one w same = answer (go v refl (ap (λ (x : Reason). x.verdict) is_told) exact)
+    answer_other not-one w same = answer (go v refl (ap (λ (x : Reasoning). x.verdict) is_told) exact)
       where
         go : (u : Verdict) → v ≡ u → r.verdict ≡ verdict_number u → IsVerdict (meant p) (run_of ls) u → ShowsBy u (meant p) (run_of ls) l l2 m m2
         go Verdict.suspect e n x = absurd (not-one n)

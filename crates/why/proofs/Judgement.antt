@@ -29,15 +29,15 @@ use Rattle.property.specs.Meant.{meant}
 use Rattle.property.specs.declared.Property.{Property}
 use Rattle.matcher.proofs.Words.{set_back, start_short}
 use Rattle.cuts.specs.Steps.{refusal_by, taken_by, told_by}
-use Rattle.judged_rest.specs.declared.Reason.{Reason}
 use Rattle.judged_rest.specs.Lent.{Lines, is_output, line_in}
-use Rattle.judged_rest.specs.Judged.{Judged, waits, refused_by, told_then, judged_line, turned, judged}
+use Rattle.judged_rest.specs.Judged.{Reasoning, Judged, waits, refused_by, told_then, judged_line, turned, judged}
+use Rattle.judged_rest.proofs.Turns.{judged-stays}
 use Rattle.first_order.specs.Search.{start}
 use Rattle.judged_rest.specs.Judged
 use Rattle.why.proofs.Left.{either_way}
 use Rattle.why.proofs.Whole.{taken-lines, lines_snoc, taken_snoc}
 
-abbrev pub says : ℕ → ℕ → Reason
+abbrev pub says : ℕ → ℕ → Reasoning
 says v line = record { refusal = 0; verdict = v; line = line }
 
 -- the line behind which a verdict was told, one line on
@@ -75,7 +75,7 @@ module _ (p : Property) where
               unless_taken (refusal_by p c (Call.line l)) (told_by p c (Call.line l)) (Calls.refused (refusal_by p c (Call.line l))) e i in
               Judged.told_by a.refusal (says v line) a.verdict k;
         })
-        ∙ ap (λ (r : Reason). record { cuts = open_cuts then (ticked clock l false); told = r }) (told_as v w line k)
+        ∙ ap (λ (r : Reasoning). record { cuts = open_cuts then (ticked clock l false); told = r }) (told_as v w line k)
 
     -- and one that is not taken
     pub line_refused : (n : ℕ) → refusal_by p (open_cuts f clock) (Call.line l) ≡ suc n
@@ -151,12 +151,9 @@ module _ (p : Property) where
         ∙ ap (λ (b : Bool). cond b (judged_line p (line_in ls k) k j) j) (either_way (is_output ls k) (le-leb 0 k (omega arith)))
 
     stays_stopped : (k n : ℕ) → (judged p ls start k).told ≡ refused_by (suc n) → (judged p ls start (suc k)).told ≡ refused_by (suc n)
-    unfolding judged turned
     stays_stopped k n e =
-        let j : Judged = judged p ls start k in
-        ap (λ (x : Judged). x.told)
-        (unless_kept j.told.refusal (cond (waits start k (is_output ls k)) (judged_line p (line_in ls k) k j) j) j
-        (λ z. let w : suc n ≡ 0 = sym (ap (λ (r : Reason). r.refusal) e) ∙ z in omega arith))
+        ap (λ (j : Judged). j.told)
+        (judged-stays p ls start k (λ z. let w : suc n ≡ 0 = sym (ap (λ (r : Reasoning). r.refusal) e) ∙ z in omega arith) (suc k) (omega arith))
         ∙ e
 
     module _ (k : ℕ) (t : Taken k) where

@@ -4,4 +4,5 @@ use Rattle.first_order.proofs.Orders.{Going}
 use Rattle.first_order.proofs.order.Given as goal
 
 abbrev pub invariant-loop-number : goal.invariant-loop-number
-invariant-loop-number l = Going l.p (lent l.output l.action l.stamp) l.breaking l.number-index l.initial.number-items l.number-items l.here
+invariant-loop-number l =
+    Going l.steps.property (lent l.output l.action l.stamp) l.breaking l.number-index l.initial.number-items l.number-items l.here

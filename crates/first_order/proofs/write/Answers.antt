@@ -6,14 +6,14 @@ use Rattle.first_order.proofs.write.Goals as goal
 pub earliest-requires : goal.earliest-requires
 earliest-requires c =
     let a = c.args in
-    let f = c.requires.p_value.2 in
+    let f = c.requires.found in
     record {
-      p_value = (c.requires.p_value.0, f.sized.output_long, f.sized.stamps_low);
+      p_value = (a.steps.now.formed, f.sized.output_long, f.sized.stamps_low);
       stamp_in_bounds = (omega (arith, c.requires.stamp_in_bounds.0, c.order.ensures.long), c.requires.stamp_in_bounds.1);
-      by_index = numbers-within a.p a.output.now a.action.now a.stamp.now a.breaking f _ _ c.order.ensures;
+      by_index = numbers-within a.steps.now.property a.output.now a.action.now a.stamp.now a.breaking f _ _ c.order.ensures;
     }
 
 pub returns : goal.returns
 returns c =
     let a = c.args in
-    both_written a.p a.output.now a.action.now a.stamp.now a.breaking c.requires.p_value.2 _ _ c.order.ensures _ _ c.earliest.ensures
+    both_written a.steps.now.property a.output.now a.action.now a.stamp.now a.breaking c.requires.found _ _ c.order.ensures _ _ c.earliest.ensures

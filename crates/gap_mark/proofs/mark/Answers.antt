@@ -1,8 +1,5 @@
 -- `gap_mark::mark` meets its contract: refused, or the run is closed and the session blind.
-use Prim.Native.Nat.{ℕ}
-use mathlib.Core.Path.{◌≡◌, refl, sym}
-use mathlib.Core.Bool.{Bool, true, false}
-use mathlib.Core.List.{List}
+use mathlib.Core.Path.{refl, sym}
 use Rattle.std.proofs.lemmas.Result.{err_from_is_err_and}
 use Rattle.meaning.specs.Calls.{Mark}
 use Rattle.meaning.specs.Calls

@@ -1,13 +1,14 @@
--- `judged_rest::judge` meets its contract. The loop: what the first k lines have come to.
+-- `judged_rest::judge` meets its contract. The loop: what the first k lines have come to, on memory of the property.
 use mathlib.Core.Path.{◌≡◌}
-use lib.ListN.{length}
-use Rattle.session_record.specs.Lent.{memory, held_in, Ready}
+use Rattle.std.specs.Prelude.{Ok}
+use Rattle.session_record.specs.Lent.{held_in}
+use Rattle.session_record.specs.Loan.{memory_in}
 use Rattle.judged_rest.specs.Lent.{lent}
-use Rattle.judged_rest.specs.Judged.{judged}
+use Rattle.judged_rest.specs.Judged.{reason_in, judged}
 use Rattle.judged_rest.proofs.judge.Given as goal
 
 abbrev pub invariant-loop-k : goal.invariant-loop-k
-invariant-loop-k l =
-    (record { cuts = held_in (memory l.p l.rows l.here.status); told = l.here.told } ≡ judged l.p (lent l.output l.action l.stamp) l.from l.k)
-    × Ready (memory l.p l.rows l.here.status)
-    × (length l.rows ≡ 4)
+invariant-loop-k l = record {
+  so_far : record { cuts = held_in (memory_in l.lent); told = reason_in (Ok l.reason) } ≡ judged l.steps.property (lent l.output l.action l.stamp) l.from l.k;
+  own : l.lent.steps.now.property ≡ l.steps.property;
+}

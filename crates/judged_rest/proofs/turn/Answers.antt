@@ -1,22 +1,22 @@
--- `judged_rest::turn` meets its contract: behind a refusal, where the line does not wait, and by what the call on lent rows answers.
+-- `judged_rest::turn` meets its contract: where the line does not wait, and by what the call on lent rows answers.
 use mathlib.Core.Path.{sym, ◌∙◌}
-use Rattle.judged_rest.proofs.Steps.{turn_refused, turn_passed, turn_not_taken, turn_taken}
+use Rattle.std.proofs.lemmas.Result.{err_from_is_err_and}
+use Rattle.session_record.specs.Loan.{memory_in}
+use Rattle.judged_rest.proofs.Steps.{turn_passed, turn_not_taken, turn_taken}
 use Rattle.judged_rest.proofs.turn.Goals as goal
-use Rattle.judged_rest.proofs.turn.Goals.{then-here-ne0-via-then-here-ne0, then-here-ne0-via-else-here-ne0+then-not-waits}
 
-pub returns-then-here-ne0 : goal.returns-then-here-ne0
-returns-then-here-ne0 c =
-    elim c.then-here-ne0.branch [
-      | then-here-ne0-via-then-here-ne0 w ↦ turn_refused _ _ _ _ _ _ c.requires.0 w.if-here-ne0.true
-      | then-here-ne0-via-else-here-ne0+then-not-waits w ↦ turn_passed _ _ _ _ _ _ c.requires.0 w.if-here-ne0.false (sym w.waits.ensures ∙ w.if-not-waits.true)
-    ]
+pub returns-then-not-waits : goal.returns-then-not-waits
+returns-then-not-waits c =
+    turn_passed _ _ _ _ (memory_in c.args.lent.now) c.args.lent.now.ready c.args.before (sym c.waits.ensures ∙ c.if-not-waits.true)
 
-pub returns-then-answer-ne0 : goal.returns-then-answer-ne0
-returns-then-answer-ne0 c =
-    turn_not_taken _ c.requires.0 _ _ _ _ _ c.if-here-ne0.false (sym c.waits.ensures ∙ c.if-not-waits.false) _ _ c.line.ensures
-    c.if-answer-ne0.true _ c.refused-told.ensures
+pub returns-in_err-answer : goal.returns-in_err-answer
+returns-in_err-answer c =
+    let p = err_from_is_err_and c.from_residual.result c.from_residual.ensures.1 in
+    rw (p.1, p.2)
+    (turn_not_taken _ _ _ _ (memory_in c.args.lent.now) c.args.lent.now.ready c.args.before (sym c.waits.ensures ∙ c.if-not-waits.false) c.line.result
+    (memory_in c.line.new.lent) c.line.ensures _ c.in_err-answer.was)
 
-pub returns-else-answer-ne0 : goal.returns-else-answer-ne0
-returns-else-answer-ne0 c =
-    turn_taken _ c.requires.0 _ _ _ _ _ c.if-here-ne0.false (sym c.waits.ensures ∙ c.if-not-waits.false) _ _ c.line.ensures
-    c.if-answer-ne0.false _ c.told-told.ensures
+pub returns : goal.returns
+returns c =
+    turn_taken _ _ _ _ (memory_in c.args.lent.now) c.args.lent.now.ready c.args.before (sym c.waits.ensures ∙ c.if-not-waits.false) c.line.result
+    (memory_in c.line.new.lent) c.line.ensures _ c.in_ok-answer.was _ c.told.ensures

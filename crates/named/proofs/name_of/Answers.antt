@@ -24,21 +24,3 @@ unfolding name_as
 returns-in-Output c =
     let a = c.args in
     handed_name a.site a.release c.name-in-Output.result true _ c.name-in-Output.ensures ∙ ap (name_as a.site.now a.release.now) (sym c.in-Output.is)
-
-pub returns-in-Gap : goal.returns-in-Gap
-unfolding name_as
-returns-in-Gap c =
-    let a = c.args in
-    at_end a.release.now ∙ ap (name_as a.site.now a.release.now) (sym c.in-Gap.is)
-
-pub returns-in-End : goal.returns-in-End
-unfolding name_as
-returns-in-End c =
-    let a = c.args in
-    at_end a.release.now ∙ ap (name_as a.site.now a.release.now) (sym c.in-End.is)
-
-pub returns-in-Refused : goal.returns-in-Refused
-unfolding name_as
-returns-in-Refused c =
-    let a = c.args in
-    at_end a.release.now ∙ ap (name_as a.site.now a.release.now) (sym c.in-Refused.is)

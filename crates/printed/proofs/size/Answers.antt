@@ -13,19 +13,13 @@ in_first : (first : ℕ) (rest : List ℕ) → length_read (first ∷ []) ≡ le
 unfolding number bit
 in_first first rest = refl
 
-pub overflow_mul-result : goal.overflow_mul-result
-overflow_mul-result c = omega (arith, c.field_at-n.ensures, small c.args.first)
-
-pub overflow_add-result : goal.overflow_add-result
-overflow_add-result c = omega (arith, c.field_at-n.ensures, small c.args.first)
-
-pub overflow_add-result-2 : goal.overflow_add-result-2
-overflow_add-result-2 c = omega (arith, c.field_at-n.ensures, small c.args.first)
+pub form_bytes-requires : goal.form_bytes-requires
+form_bytes-requires c = omega (arith, c.field_at-n.ensures, small c.args.first)
 
 pub returns : goal.returns
 returns c =
     let first = c.args.first in (
-      (λ rest. ap form_size (c.field_at-n.ensures ∙ in_first first rest)),
-      omega (arith, c.field_at-n.ensures, small first),
-      omega (arith, c.field_at-n.ensures, small first),
+      (λ rest. c.form_bytes.ensures ∙ ap form_size (c.field_at-n.ensures ∙ in_first first rest)),
+      omega (arith, c.form_bytes.ensures, c.field_at-n.ensures, small first),
+      omega (arith, c.form_bytes.ensures, c.field_at-n.ensures, small first),
     )

@@ -3,9 +3,7 @@ use Prim.Native.Nat.{ℕ, ◌+◌, ◌-◌, ◌≤◌, ◌<◌}
 use mathlib.Core.Path.{◌≡◌, refl, ap, subst, ◌∙◌}
 use mathlib.Core.Bool.{Bool, false, cond}
 use native.Mathlib.Omega.{arith}
-use Rattle.meaning.specs.Node.{Verdict, verdict_number}
-use Rattle.meaning.specs.Matcher.{Lengths}
-use Rattle.meaning.specs.Step.{Front}
+use Rattle.meaning.specs.Node.{verdict_number}
 use Rattle.cuts.specs.Steps.{line_of, front_after, front_says}
 use Rattle.cuts.specs.Fronts.{front_of, Holds}
 use Rattle.cuts.proofs.Lines.{holds-count}

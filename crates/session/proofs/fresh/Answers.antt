@@ -1,11 +1,10 @@
 -- `session::fresh` meets its contract: the property's refusal decides.
 use Rattle.std.specs.Prelude.{Ok, Err}
-use mathlib.Core.Path.{◌≡◌, sym, ap, ◌∙◌}
+use mathlib.Core.Path.{sym, ap, ◌∙◌}
 use Rattle.outcomes.specs.declared.Verdict.TheVariants.{Clear}
-use Rattle.outcomes.specs.declared.Refusal.TheVariants
 use Rattle.outcomes.proofs.Same.{refusal_not_0}
 use Rattle.session_record.specs.declared.Session.{Session}
-use Rattle.session_record.specs.Step.{answer_in, stepping_in}
+use Rattle.session_record.specs.Step.{stepping_in}
 use Rattle.session_record.specs.Lent.{blank}
 use Rattle.session_record.proofs.Steps.{fresh-refused, fresh-taken}
 use Rattle.session_record.proofs.Making.{blank-fresh, blank-zeros}

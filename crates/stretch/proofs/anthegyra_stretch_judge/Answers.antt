@@ -1,33 +1,24 @@
--- `stretch::anthegyra_stretch_judge` meets its contract: the judgement in one number, which fits.
-use mathlib.Core.Path.{ap, ◌∙◌}
+-- `stretch::anthegyra_stretch_judge` meets its contract: the judgement in one number.
+use Prim.Native.Nat.{ℕ, ◌+◌, ◌*◌}
+use mathlib.Core.Path.{◌≡◌, ap, ◌∙◌}
 use native.Mathlib.Omega.{arith}
-use Rattle.stretch.specs.Judge.{one_number}
+use Rattle.std.specs.Prelude.{Ok, Err}
+use Rattle.outcomes.specs.Numbers.{refusal_number, number_told}
+use Rattle.stretch.specs.Judge.{judged_in, one_number}
 use Rattle.stretch.proofs.Judging.{one-long, one_short}
-use Rattle.stretch.proofs.Bounds.{Bounded, judged_small}
 use Rattle.stretch.proofs.anthegyra_stretch_judge.Goals as goal
 
 pub returns-then-judged-gt-MOST_COUNTED : goal.returns-then-judged-gt-MOST_COUNTED
-returns-then-judged-gt-MOST_COUNTED c = one-long c.judge-judged.result c.if-judged-gt-MOST_COUNTED.true ∙ ap one_number c.judge-judged.ensures
+returns-then-judged-gt-MOST_COUNTED c =
+    ap (λ (n : ℕ). n * 65_536) c.from.ensures ∙ one-long (judged_in (Ok c.in-Ok.judged)) c.if-judged-gt-MOST_COUNTED.true ∙ ap one_number c.in-Ok.ensures
 
-pub overflow_mul-result-2 : goal.overflow_mul-result-2
-overflow_mul-result-2 c =
-    let h : Bounded c.judge-judged.result = judged_small c.args.property.now c.args.trace.now c.judge-judged.result c.judge-judged.ensures in
-    omega (arith, h.refusal_small)
+pub returns-else-judged-gt-MOST_COUNTED : goal.returns-else-judged-gt-MOST_COUNTED
+returns-else-judged-gt-MOST_COUNTED c =
+    let plain : c.from-in-Ok.result * 16_384 + c.in-Ok.judged.count ≡ 0 * 65_536 + number_told c.in-Ok.judged.verdict * 16_384 + c.in-Ok.judged.count =
+    omega (arith, c.from-in-Ok.ensures) in
+    plain ∙ one_short (judged_in (Ok c.in-Ok.judged)) c.if-judged-gt-MOST_COUNTED.false ∙ ap one_number c.in-Ok.ensures
 
-pub overflow_mul-result-3 : goal.overflow_mul-result-3
-overflow_mul-result-3 c =
-    let h : Bounded c.judge-judged.result = judged_small c.args.property.now c.args.trace.now c.judge-judged.result c.judge-judged.ensures in
-    omega (arith, h.verdict_small)
-
-pub overflow_add-result : goal.overflow_add-result
-overflow_add-result c =
-    let h : Bounded c.judge-judged.result = judged_small c.args.property.now c.args.trace.now c.judge-judged.result c.judge-judged.ensures in
-    omega (arith, h.refusal_small, h.verdict_small)
-
-pub overflow_add-result-2 : goal.overflow_add-result-2
-overflow_add-result-2 c =
-    let h : Bounded c.judge-judged.result = judged_small c.args.property.now c.args.trace.now c.judge-judged.result c.judge-judged.ensures in
-    omega (arith, h.refusal_small, h.verdict_small, c.if-judged-gt-MOST_COUNTED.false)
-
-pub returns : goal.returns
-returns c = one_short c.judge-judged.result c.if-judged-gt-MOST_COUNTED.false ∙ ap one_number c.judge-judged.ensures
+pub returns-in-Err : goal.returns-in-Err
+returns-in-Err c =
+    let plain : c.from-in-Err.result * 65_536 ≡ refusal_number c.in-Err.refusal * 65_536 + 0 * 16_384 + 0 = omega (arith, c.from-in-Err.ensures) in
+    plain ∙ one_short (judged_in (Err c.in-Err.refusal)) (omega arith) ∙ ap one_number c.in-Err.ensures
