@@ -81,8 +81,10 @@ fn found<W: Write>(
 {
     match found {
         Ok(reason) => {
-            if listing_shell::write(out, reason_text::reached(u64::from(reason.verdict), reason.line))
-                && first.write(out, count)
+            if listing_shell::write(
+                out,
+                reason_text::reached(u64::from(reason.verdict), reason.line),
+            ) && first.write(out, count)
                 && reason.verdict == Verdict::Suspect
             {
                 second.write(out, count);
@@ -122,32 +124,30 @@ fn records<R: Read, W: Write>(input: &mut R, out: &mut W, p: Property)
     requires { property_refusal (meant p) ≡ 0 }
 {
     let steps = Steps::new(p);
-    let fresh = session::fresh(p);
-    let s = fresh.session;
-    let mut rows = session_record::rows_of(s);
+    let fresh = session::fresh(p).session;
+    let mut rows = session_record::rows_of(fresh);
     let mut lent = Lent {
         steps: &steps,
         rows: &mut rows,
-        status: s.shared.status,
+        status: fresh.shared.status,
     };
     let mut kept = Kept::new();
     for turns in 0..u64::MAX {
-        match next(input, &mut lent, &mut kept) {
-            Ok(Did::Line(_, _)) => {}
-            Ok(Did::Gap(_, _, _)) => {}
-            Ok(Did::Ended) => {
-                if lent.status.clock.blind {
-                    listing_shell::write(out, reason_text::blind());
-                    return;
-                }
-                // Each turn before this one took a record.
-                tell(out, &lent, turns, &kept);
-                return;
-            }
+        let did = match next(input, &mut lent, &mut kept) {
+            Ok(did) => did,
             Err(refusal) => {
                 stop(out, refusal);
                 return;
             }
+        };
+        if let Did::Ended = did {
+            if lent.status.clock.blind {
+                listing_shell::write(out, reason_text::blind());
+                return;
+            }
+            // Each turn before this one took a record.
+            tell(out, &lent, turns, &kept);
+            return;
         }
     }
 }
