@@ -6,131 +6,116 @@ ghost use Rattle.std.specs.Prelude.{◌+◌, ◌^◌, ◌≤◌, ◌<◌, ◌≡
 ghost use Rattle.reasons.specs.Reasons.{most_lines};
 ghost use Rattle.meaning.specs.Numbers.{property_refusal};
 ghost use Rattle.property.specs.Meant.{meant};
-ghost use Rattle.table.specs.Table.{IsTable};
-ghost use Rattle.session_record.specs.Lent.{memory, Ready};
-ghost use Rattle.first_order.specs.Search.{pair};
-ghost use Rattle.open_run.specs.Kept.{in_lines, Next, Open};
-ghost use Rattle.show_why.specs.Told.{Explained};
+ghost use Rattle.session_record.specs.Loan.{memory_in};
+ghost use Rattle.one_record.specs.Doing.{doing_in};
+ghost use Rattle.judged_rest.specs.Judged.{reason_in};
+ghost use Rattle.open_run.specs.Kept.{Next, Open};
+ghost use Rattle.show_why.specs.Told.{pair_in, Explained};
 
-use held::Status;
 use judged_rest::Reason;
 use limits::MOST_LINES;
-use open_run::Noted;
+use one_record::Did;
+use open_run::Kept;
+use outcomes::{Refusal, Verdict};
 use property::Property;
-use rows::Words;
+use session_record::Lent;
 use std::io::{Read, Write};
-use table::Table;
-use walk::Did;
+use table::Steps;
 
 // Reads one record.
-fn next<R: Read>(
-    input: &mut R,
-    p: Property,
-    table: &Table,
-    rows: &mut [Words],
-    status: Status,
-    outputs: &mut [bool; 256],
-    actions: &mut [u8; 256],
-    stamps: &mut [u64; 256],
-    count: usize,
-) -> Noted
-    requires { Ready (memory p rows.old status) × IsTable p table.now × (count + 1 < 2 ^ 64) }
-    ensures { Next (memory p rows.old status)
-        (in_lines outputs.old actions.old stamps.old count) result.did (memory p rows.new result.status)
-        (in_lines outputs.new actions.new stamps.new result.count) }
+fn next<R: Read>(input: &mut R, lent: &mut Lent<'_>, kept: &mut Kept) -> Result<Did, Refusal>
+    requires { kept.old.count + 1 < 2 ^ 64 }
+    ensures { Next (memory_in lent.old) kept.old (doing_in result) (memory_in lent.new) kept.new }
 {
     let mut bytes = [0u8; 6];
     let got = listing_shell::read_full(input, &mut bytes);
-    let read = record_form::read_record(&bytes[..got], status.clock.latest);
-    open_run::take(
-        p, table, rows, status, outputs, actions, stamps, count, read,
-    )
+    let read = record_form::read_record(&bytes[..got], lent.status.clock.latest);
+    open_run::take(lent, kept, read)
 }
 
 // The one line after a refusal.
-fn stop<W: Write>(out: &mut W, refusal: u64) {
-    listing_shell::write(out, reason_text::stop(refusal));
+fn stop<W: Write>(out: &mut W, refusal: Refusal) {
+    listing_shell::write(out, reason_text::stop(u64::from(refusal)));
 }
 
-// Writes an order, a line at a time, and answers whether it could be written.
-fn order<W: Write>(out: &mut W, numbers: &[u64; 256], moments: &[i64; 256], count: usize) -> bool
-    requires { count ≤ most_lines }
-{
-    for (number, moment) in numbers[..count].iter().zip(moments) {
-        if !listing_shell::write(out, reason_text::placed(*number, *moment)) {
-            return false;
+// An order of the run: the numbers of its lines, and their moments.
+#[derive(Clone, Copy)]
+struct Order {
+    pub numbers: [u64; 256],
+    pub moments: [i64; 256],
+}
+
+impl Order {
+    fn new() -> Self {
+        Order {
+            numbers: [0; 256],
+            moments: [0; 256],
         }
     }
-    true
+
+    // Writes it, a line at a time, and answers whether it could be written.
+    fn write<W: Write>(&self, out: &mut W, count: usize) -> bool
+        requires { count ≤ most_lines }
+    {
+        for (number, moment) in self.numbers[..count].iter().zip(&self.moments) {
+            if !listing_shell::write(out, reason_text::placed(*number, *moment)) {
+                return false;
+            }
+        }
+        true
+    }
 }
 
-// Writes what was found of the run that is open, which has so many lines. The session that has it open is lent for the promise alone: the
-// rows and what stands beside them, after so many records.
+// Writes what was found of the run that is open, which has so many lines. The session that has it open is lent for the promise alone, after
+// so many records.
 fn found<W: Write>(
     out: &mut W,
-    p: Property,
-    rows: &[Words],
-    status: Status,
+    lent: &Lent<'_>,
     taken: u64,
-    r: Reason,
-    numbers: &[u64; 256],
-    moments: &[i64; 256],
-    numbers2: &[u64; 256],
-    moments2: &[i64; 256],
+    found: Result<Reason, Refusal>,
+    first: &Order,
+    second: &Order,
     count: usize,
 )
-    requires { Explained (memory p rows.now status) taken count r (pair numbers.now moments.now) (pair numbers2.now moments2.now) }
+    requires { Explained (memory_in lent.now) taken count (reason_in found) (pair_in first.now) (pair_in second.now) }
 {
-    if r.refusal != 0 {
-        stop(out, r.refusal);
-        return;
-    }
-    if !listing_shell::write(out, reason_text::reached(r.verdict, r.line)) {
-        return;
-    }
-    if !order(out, numbers, moments, count) {
-        return;
-    }
-    if r.verdict == 1 {
-        order(out, numbers2, moments2, count);
+    match found {
+        Ok(reason) => {
+            if listing_shell::write(
+                out,
+                reason_text::reached(u64::from(reason.verdict), reason.line),
+            ) && first.write(out, count)
+                && reason.verdict == Verdict::Suspect
+            {
+                second.write(out, count);
+            }
+        }
+        Err(refusal) => stop(out, refusal),
     }
 }
 
 // Writes why the run that is open has its verdict.
-fn tell<W: Write>(
-    out: &mut W,
-    p: Property,
-    rows: &[Words],
-    status: Status,
-    taken: u64,
-    outputs: &[bool],
-    actions: &[u8],
-    stamps: &[u64],
-    count: usize,
-)
-    requires { Open (memory p rows.now status) taken (in_lines outputs.now actions.now stamps.now count) }
+fn tell<W: Write>(out: &mut W, lent: &Lent<'_>, taken: u64, kept: &Kept)
+    requires { Open (memory_in lent.now) taken kept.now }
 {
+    let count = kept.count;
     if MOST_LINES < count {
-        stop(out, 13);
+        stop(out, Refusal::TooManyLines);
         return;
     }
-    let mut numbers = [0u64; 256];
-    let mut moments = [0i64; 256];
-    let mut numbers2 = [0u64; 256];
-    let mut moments2 = [0i64; 256];
-    let r = why::explain(
-        p,
-        &outputs[..count],
-        &actions[..count],
-        &stamps[..count],
-        &mut numbers,
-        &mut moments,
-        &mut numbers2,
-        &mut moments2,
+    let mut first = Order::new();
+    let mut second = Order::new();
+    let reason = why::explain(
+        lent.steps.property,
+        &kept.outputs[..count],
+        &kept.actions[..count],
+        &kept.stamps[..count],
+        &mut first.numbers,
+        &mut first.moments,
+        &mut second.numbers,
+        &mut second.moments,
     );
-    found(
-        out, p, rows, status, taken, r, &numbers, &moments, &numbers2, &moments2, count,
-    );
+    found(out, lent, taken, reason, &first, &second, count);
 }
 
 // Takes the records. The table is made once, and the rows are lent from record to record. A proved loop has to end, and nothing says
@@ -138,46 +123,31 @@ fn tell<W: Write>(
 fn records<R: Read, W: Write>(input: &mut R, out: &mut W, p: Property)
     requires { property_refusal (meant p) ≡ 0 }
 {
-    let table = table::table(p);
-    let fresh = session::fresh(p);
-    let s = fresh.session;
-    let mut rows = session_record::rows_of(s);
-    let mut status = s.shared.status;
-    let mut outputs = [false; 256];
-    let mut actions = [0u8; 256];
-    let mut stamps = [0u64; 256];
-    let mut count = 0;
+    let steps = Steps::new(p);
+    let fresh = session::fresh(p).session;
+    let mut rows = session_record::rows_of(fresh);
+    let mut lent = Lent {
+        steps: &steps,
+        rows: &mut rows,
+        status: fresh.shared.status,
+    };
+    let mut kept = Kept::new();
     for turns in 0..u64::MAX {
-        let r = next(
-            input,
-            p,
-            &table,
-            &mut rows,
-            status,
-            &mut outputs,
-            &mut actions,
-            &mut stamps,
-            count,
-        );
-        status = r.status;
-        count = r.count;
-        match r.did {
-            Did::Took => {}
-            Did::Ended => {
-                if status.clock.blind {
-                    listing_shell::write(out, reason_text::blind());
-                    return;
-                }
-                // Each turn before this one took a record.
-                tell(
-                    out, p, &rows, status, turns, &outputs, &actions, &stamps, count,
-                );
+        let did = match next(input, &mut lent, &mut kept) {
+            Ok(did) => did,
+            Err(refusal) => {
+                stop(out, refusal);
                 return;
             }
-            Did::Not(number) => {
-                stop(out, number);
+        };
+        if let Did::Ended = did {
+            if lent.status.clock.blind {
+                listing_shell::write(out, reason_text::blind());
                 return;
             }
+            // Each turn before this one took a record.
+            tell(out, &lent, turns, &kept);
+            return;
         }
     }
 }
@@ -187,10 +157,8 @@ fn main(rt: HostRuntime) {
     let mut out = rt.stdout();
     let mut form = [0u8; 71];
     let got = listing_shell::read_form(&mut input, &mut form);
-    let read = property_form::read_property(&form[..got]);
-    if read.refusal != 0 {
-        stop(&mut out, read.refusal);
-        return;
+    match property_form::read_property(&form[..got]) {
+        Ok(p) => records(&mut input, &mut out, p),
+        Err(refusal) => stop(&mut out, refusal),
     }
-    records(&mut input, &mut out, read.property);
 }
