@@ -84,8 +84,10 @@ pub use Rattle.demands.proofs.Why.{demand_1_why, as_a_session, demand_why, momen
 pub use Rattle.demands.proofs.Lost.{gap-read, gap-number, gap-written, demand_1_mark, same-watched, same-told, same_step, same_through, same_answers, same-walk, same_judge, demand_joined}
 -- A walk that has used its budget up has not looked further.
 pub use Rattle.demands.proofs.Walks.{budget_spent}
--- What is called, and what the session record holds after any calls.
+-- What is called and handed back: no refusal has the number 0, and a number is that of one refusal, or of one verdict, so that numbers tell a
+-- result whole; and what the session record holds after any calls.
 pub use Rattle.demands.proofs.Called.{kinds, own_call, line_called, mark_called, event_called, property_called, lines_called, name_called, refusals_called, verdicts_called, refused_called}
+pub use Rattle.outcomes.proofs.Same.{refusal_not_0, same_refusal, same_verdict}
 pub use Rattle.demands.proofs.Called.{answer_called, stepped_called, read_called, record_called, stop_called, walk_called, judged_called, reason_called, zeros_called, version_called}
 pub use Rattle.demands.proofs.Held.{running_holds, demand_10}
 -- A record may start at any place of its ring (document 02, CR 9): two that say the same have the same answers, to calls and to walks.

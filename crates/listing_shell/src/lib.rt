@@ -78,7 +78,8 @@ pub fn begun<R: Read>(input: &mut R) -> Printed
     printed::begin(&form[..got])
 }
 
-// Which records stand behind the property: document 01's, or the tap card's.
+// Which records stand behind the property: document 01's, or the tap card's. A closure for the reader would bring its promise along in every
+// clause down from `list`; the enum brings a word.
 #[derive(Clone, Copy)]
 pub enum Form {
     Record,
@@ -130,8 +131,7 @@ fn put<W: Write>(out: &mut W, form: Form, p: Property, records: u64, text: Line,
 fn records<R: Read, W: Write>(input: &mut R, out: &mut W, form: Form, s: Session)
     requires { (s ≡ (fresh_of s.property).session) × (out_of_range s ≡ false) }
 {
-    let p = s.property;
-    let steps = Steps::new(p);
+    let steps = Steps::new(s.property);
     let mut rows = rows_of(s);
     let mut lent = Lent {
         steps: &steps,
@@ -141,7 +141,7 @@ fn records<R: Read, W: Write>(input: &mut R, out: &mut W, form: Form, s: Session
     let mut count = 0;
     for turns in 0..u64::MAX {
         let r = next(input, form, &mut lent, count);
-        if !put(out, form, p, turns, r.text, r.more) {
+        if !put(out, form, s.property, turns, r.text, r.more) {
             return;
         }
         count = r.count;

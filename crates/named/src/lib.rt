@@ -18,7 +18,7 @@ pub struct Named {
     pub session: Session,
     // The number of records taken so far.
     pub count: u64,
-    // The listing goes on: this was not its last line.
+    // The listing goes on: this was not its last line. A flag: text, session and count are there, and promised, in both cases.
     pub more: bool,
 }
 

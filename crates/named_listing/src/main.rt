@@ -3,36 +3,28 @@
 // What is written, the crate `named` says.
 #![tactic(auto)]
 
-ghost use Rattle.std.specs.Prelude.{◌≤◌, ◌≡◌, true, length};
+ghost use Rattle.std.specs.Prelude.{ℕ, ◌≤◌, ◌≡◌, true, length};
 ghost use Rattle.io.specs.Counts.{IsPrefixLen};
 ghost use Rattle.session_record.specs.Step.{fresh_of};
-ghost use Rattle.named_listing.specs.Next.{ListCame, NamedFollows};
+ghost use Rattle.named_listing.specs.Next.{read_in, ListCame, NamedFollows};
 
 use line_text::NamedLine;
+use outcomes::Refusal;
 use property::Property;
 use session_record::Session;
 use std::io::{Read, Write};
 
-// What was read of a list, and its refusal.
-#[derive(Clone, Copy)]
-struct ListRead {
-    refusal: u64,
-    len: usize,
-}
-
-// Reads a list. Input that ends early and a read that fails leave fewer bytes, which is then refused.
-fn read_list<R: Read>(input: &mut R, of_release: bool, list: &mut [u8]) -> ListRead
+// Reads a list, and gives the number of its bytes. Input that ends early and a read that fails leave fewer, which is then refused.
+fn read_list<R: Read>(input: &mut R, of_release: bool, list: &mut [u8]) -> Result<usize, Refusal>
     requires { 65536 ≤ length list.old }
-    ensures { IsPrefixLen result.len list.new × ListCame of_release list.new result }
+    ensures { (came : ℕ) × IsPrefixLen (read_in came result).len list.new × ListCame of_release list.new (read_in came result) }
 {
     let mut head = [0u8; 2];
     let got = listing_shell::read_full(input, &mut head);
     let size = name_list::size(head[0], head[1]);
     let len = listing_shell::read_full(input, &mut list[..size]);
-    ListRead {
-        refusal: name_list::refused(of_release, &head[..got], &list[..len]),
-        len,
-    }
+    name_list::refused(of_release, &head[..got], &list[..len])?;
+    Ok(len)
 }
 
 // Writes what a record added, at once, and answers whether the listing goes on. One that cannot be written does not. The lists, the property
@@ -63,14 +55,13 @@ fn records<'a, R: Read, W: Write>(
 )
     requires { s ≡ (fresh_of s.property).session }
 {
-    let p = s.property;
     let mut session = s;
     let mut count = 0;
     for turns in 0..u64::MAX {
         let mut bytes = [0u8; 6];
         let got = listing_shell::read_full(input, &mut bytes);
         let r = named::record(site, release, session, count, &bytes[..got]);
-        if !put(out, site, release, p, turns, r.text, r.more) {
+        if !put(out, site, release, s.property, turns, r.text, r.more) {
             return;
         }
         session = r.session;
@@ -86,9 +77,14 @@ fn log<'a, R: Read, W: Write>(input: &mut R, out: &mut W, site: &'a [u8], releas
     }
 }
 
-// A list that is refused ends the listing.
-fn stop<W: Write>(out: &mut W, refusal: u64) {
-    listing_shell::write(out, printout::stop(0, refusal));
+// Reads the two lists, and lists what stands behind them, unless a list is refused.
+fn lists<R: Read, W: Write>(input: &mut R, out: &mut W) -> Result<(), Refusal> {
+    let mut site = io::large_buffer();
+    let own = read_list(input, false, &mut site)?;
+    let mut release = io::large_buffer();
+    let other = read_list(input, true, &mut release)?;
+    log(input, out, &site[..own], &release[..other]);
+    Ok(())
 }
 
 fn main(rt: HostRuntime) {
@@ -97,22 +93,8 @@ fn main(rt: HostRuntime) {
     if !listing_shell::write(&mut out, printout::named_header()) {
         return;
     }
-    let mut site = io::large_buffer();
-    let own = read_list(&mut input, false, &mut site);
-    if own.refusal != 0 {
-        stop(&mut out, own.refusal);
-        return;
+    // A list that is refused ends the listing.
+    if let Err(refusal) = lists(&mut input, &mut out) {
+        listing_shell::write(&mut out, printout::stop(0, u64::from(refusal)));
     }
-    let mut release = io::large_buffer();
-    let other = read_list(&mut input, true, &mut release);
-    if other.refusal != 0 {
-        stop(&mut out, other.refusal);
-        return;
-    }
-    log(
-        &mut input,
-        &mut out,
-        &site[..own.len],
-        &release[..other.len],
-    );
 }

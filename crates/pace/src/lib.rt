@@ -14,11 +14,13 @@ pub extern "C" fn anthegyra_pace_walk(
 ) -> usize
     ensures { result ≡ paced property.now trace.now budget times }
 {
-    let read = property_form::read_property(property);
-    let fresh = session::fresh(read.property);
+    let Ok(p) = property_form::read_property(property) else {
+        return 0;
+    };
+    let s = session::fresh(p).session;
     let mut taken = 0;
     for _ in 0..times {
-        taken = walk::walk(fresh.session, trace, budget).taken;
+        taken = walk::walk(s, trace, budget).taken;
     }
     taken
 }

@@ -18,7 +18,7 @@ pub struct Added {
     pub text: Line,
     // The number of records taken so far.
     pub count: u64,
-    // The listing goes on: this was not its last line.
+    // The listing goes on: this was not its last line. A flag: text and count are there in both cases.
     pub more: bool,
 }
 

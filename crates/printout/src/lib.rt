@@ -8,6 +8,8 @@ ghost use Rattle.printout.specs.Named.{named_header_text, front_text};
 
 use line_text::Line;
 
+// Kinds, verdicts and refusals come here as numbers: each text is promised for every number (`line_text`, `stop_text`), and a type would take calls away that are allowed.
+
 #[tactic(auto, unfolding(crate::specs::Text::letter))]
 fn letter_of(kind: u8) -> u8
     ensures { result ≡ letter kind }

@@ -47,7 +47,7 @@ fn outputs(s: &[u8], n: usize) -> [bool; 32]
     output
 }
 
-// The actions' numbers.
+// The actions' numbers. One function with `outputs` would take the place, the width and a conversion, and be no plainer.
 fn numbers(s: &[u8], n: usize) -> [u8; 32]
     requires { (n ≤ 32) × (58 + 7 * n ≤ 8 * length s.now) }
     ensures { result ≡ places (number_read s.now) n 0 }

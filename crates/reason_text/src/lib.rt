@@ -20,7 +20,8 @@ fn put_moment(t: Line, moment: i64) -> Line
     t.put_number(moment.unsigned_abs())
 }
 
-// The first line: the verdict, and after which line it was first reached.
+// The first line: the verdict, and after which line it was first reached. A verdict and a refusal are numbers here: each text is promised for every
+// number (`reached_text`, `stop_alone_text`).
 #[tactic(auto, using(std::proofs::Common::append_assoc), unfolding(crate::specs::Reason::reached_text))]
 pub fn reached(verdict: u64, line: u64) -> Line
     ensures { result ≡ reached_text verdict line }

@@ -48,7 +48,7 @@ fn stamp_behind(before: u64, less: u64) -> Result<u64, Refusal>
     Ok(before + less)
 }
 
-// The record that these fields are, by its kind, each with its own rules.
+// The record that these fields are, by its kind, each with its own rules. The kind is the number in two bits: the document wants a match on it.
 pub fn record_of(kind: u64, action: u8, less: u64, before: u64) -> Result<Record, Refusal>
     requires { kind < 4 }
     ensures { numbers (read_case result) ≡ answered (fields_refusal kind action less before) (taken kind action (before + less)) }
@@ -130,7 +130,7 @@ fn put_record(kind: u8, action: u8, less: u64, buf: &mut [u8])
     fields::pack(&list, RECORD_SIZE, buf);
 }
 
-// Writes a record to the front of `buf`; `before` is the stamp before it.
+// Writes a record to the front of `buf`; `before` is the stamp before it. The kind is a number, since one above 3 is refused as broken (8).
 pub fn write_record(
     kind: u8,
     action: u8,

@@ -20,7 +20,7 @@ use session_record::Told;
 use table::Steps;
 
 // The one cut of a run with no line.
-fn begin(rows: &mut [Words]) -> Span
+pub fn begin(rows: &mut [Words]) -> Span
     requires { Room rows.old none × (3 < length rows.old) }
     ensures { (result ≡ none) × (rows.new ≡ with_cut rows.old none 0 0 (cut_of at_start)) }
 {

@@ -5,4 +5,4 @@ use Rattle.listing_shell.proofs.Listed.{ListedSoFar}
 use Rattle.listing_shell.proofs.records.Given as goal
 
 abbrev pub invariant-loop-turns : goal.invariant-loop-turns
-invariant-loop-turns g l = ListedSoFar l.form l.p l.turns (record_in (memory_in l.lent)) l.count
+invariant-loop-turns g l = ListedSoFar l.form l.s.property l.turns (record_in (memory_in l.lent)) l.count

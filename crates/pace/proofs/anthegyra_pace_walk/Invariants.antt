@@ -4,4 +4,4 @@ use Rattle.pace.specs.Pace.{last_taken}
 use Rattle.pace.proofs.anthegyra_pace_walk.Given as goal
 
 abbrev pub invariant-loop : goal.invariant-loop
-invariant-loop l = l.taken ≡ last_taken l.fresh.session l.trace l.budget l.counter
+invariant-loop l = l.taken ≡ last_taken l.s l.trace l.budget l.counter
