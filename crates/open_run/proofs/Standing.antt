@@ -1,5 +1,5 @@
 -- The run that is kept is the one that is open: what a record does to both.
-use Prim.Native.Nat.{ℕ, zero, suc, ◌+◌, ◌≤◌}
+use Prim.Native.Nat.{ℕ, ◌+◌, ◌≤◌}
 use mathlib.Core.Path.{◌≡◌, refl, sym, ap, subst, ◌∙◌}
 use mathlib.Core.Bool.{Bool, true, false, cond}
 use mathlib.Core.List.{List, [], ◌∷◌, ◌++◌, append-nil}
@@ -19,7 +19,7 @@ use Rattle.meaning.proofs.Calls.{Agrees, open_run, blind, grown_agrees, refusal_
 use Rattle.property.specs.Meant.{meant}
 use Rattle.property.specs.declared.Property.{Property}
 use Rattle.trace_form.specs.ReadAs.{ReadAs}
-use Rattle.cuts.specs.Steps.{line_of, refusal_by}
+use Rattle.cuts.specs.Steps.{refusal_by}
 use Rattle.session_record.specs.declared.Session.{Session}
 use Rattle.session_record.specs.Record.{blind_of, cuts_of}
 use Rattle.session_record.specs.Step.{Answer, fresh_of, stepped_of, stepped_through}
@@ -29,7 +29,7 @@ use Rattle.session_record.proofs.Steps.{answer-refusal, refusal-fits}
 use Rattle.session_record.proofs.Grown.{grown-stands}
 use Rattle.session_record.proofs.Running.{running_record}
 use Rattle.one_record.specs.Takes.{Takes}
-use Rattle.one_record.specs.Doing.{Doing, doing_of}
+use Rattle.one_record.specs.Doing.{Doing}
 use Rattle.open_run.specs.declared.Kept.{Kept}
 use Rattle.open_run.specs.Kept.{Keeps, seen, Stands, calls_as, Goes}
 use Rattle.open_run.proofs.Keeping.{with-count, keeps-none}
