@@ -76,6 +76,7 @@ fn read(rt: &impl Input, script: &mut [u8]) -> io::Result<usize>
 {
     let mut input = rt.reader();
     let mut done = 0;
+    // A `while`, since a turn fills as many bytes as came.
     while done < script.len() {
         let n = input.read(&mut script[done..])?;
         if n == 0 {

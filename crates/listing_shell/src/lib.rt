@@ -78,7 +78,8 @@ pub fn begun<R: Read>(input: &mut R) -> Printed
     printed::begin(&form[..got])
 }
 
-// Which records stand behind the property: document 01's, or the tap card's.
+// Which records stand behind the property: document 01's, or the tap card's. A closure for the reader would bring its promise along in every
+// clause down from `list`; the enum brings a word.
 #[derive(Clone, Copy)]
 pub enum Form {
     Record,
