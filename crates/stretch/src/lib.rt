@@ -40,7 +40,10 @@ fn trace_verdict(p: Property, trace: &[u8]) -> Result<Judged, Refusal>
         status: s.shared.status,
     };
     let Went {
-        taken, stop, read, ..
+        taken,
+        stop,
+        read,
+        ..
     } = walk::records(&mut lent, trace, trace.len());
     match stop {
         Stop::Budget => Err(Refusal::TooShort),

@@ -8,7 +8,7 @@ use Rattle.one_record.specs.declared.Did.{Did}
 use Rattle.one_record.specs.Doing.{doing_in}
 use Rattle.one_record.specs.Takes.{Takes}
 use Rattle.walk.proofs.Dids.{record-turned}
-use Rattle.walk.proofs.Going.{Going, going_start, going_took, going_ended, going_refused, going_done}
+use Rattle.walk.proofs.Going.{going_start, going_took, going_ended, going_refused, going_done}
 use Rattle.walk.proofs.records.Goals as goal
 use Rattle.walk.proofs.records.Goals.{in-Line, in-Gap}
 
@@ -24,12 +24,12 @@ loop-taken-preserved c =
     let at = c.loop-taken.at in
     let bytes = c.args.trace.now in
     elim c.match-did.branch [
-      in-Line w ↦
-        rw w.lost-is (going_took c.loop-taken.invariant _ _ (memory_in c.take.new.lent) c.loop-taken-test.true
-        (record-turned bytes at c.read_record-read.ensures (known c.in-Ok.ensures w.in-Line.is)))
+      | in-Line w ↦
+          rw w.lost-is (going_took c.loop-taken.invariant _ _ (memory_in c.take.new.lent) c.loop-taken-test.true
+          (record-turned bytes at c.read_record-read.ensures (known c.in-Ok.ensures w.in-Line.is)))
       | in-Gap w ↦
-        rw w.lost-is (going_took c.loop-taken.invariant _ _ (memory_in c.take.new.lent) c.loop-taken-test.true
-        (record-turned bytes at c.read_record-read.ensures (known c.in-Ok.ensures w.in-Gap.is)))
+          rw w.lost-is (going_took c.loop-taken.invariant _ _ (memory_in c.take.new.lent) c.loop-taken-test.true
+          (record-turned bytes at c.read_record-read.ensures (known c.in-Ok.ensures w.in-Gap.is)))
     ]
 
 pub returns-in-Ended : goal.returns-in-Ended
