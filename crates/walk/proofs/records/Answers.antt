@@ -8,7 +8,7 @@ use Rattle.one_record.specs.declared.Did.{Did}
 use Rattle.one_record.specs.Doing.{doing_in}
 use Rattle.one_record.specs.Takes.{Takes}
 use Rattle.walk.proofs.Dids.{record-turned}
-use Rattle.walk.proofs.Going.{Going, going_start, going_took, going_ended, going_refused, going_done}
+use Rattle.walk.proofs.Going.{going_start, going_took, going_ended, going_refused, going_done}
 use Rattle.walk.proofs.records.Goals as goal
 use Rattle.walk.proofs.records.Goals.{in-Line, in-Gap}
 
