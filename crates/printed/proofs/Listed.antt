@@ -12,7 +12,7 @@ use Rattle.one_record.specs.Doing.{Doing, by_answer, doing_of, session_after}
 use Rattle.one_record.specs.Takes.{Takes}
 use Rattle.walk.specs.Walk.{One, one_call, one_read}
 use Rattle.walk.proofs.Dids.{refused_stays}
-use Rattle.printout.specs.Text.{line_text, end_text, stop_text}
+use Rattle.printout.specs.Text.{line_text, stop_text}
 use Rattle.printed.specs.declared.Printed.{Printed}
 use Rattle.printed.specs.declared.lent.Added.{Added}
 use Rattle.printed.specs.Printed.{one_after, call_text, last_line, by_one, printed_by}

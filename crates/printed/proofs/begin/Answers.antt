@@ -1,13 +1,12 @@
 -- `printed::begin` meets its contract: all is read off the property's reader.
 use Rattle.std.specs.Prelude.{Result, Ok, Err, is_ok}
-use Rattle.std.proofs.Common.{◌≡◌, ℕ, zero, suc, Bool, eqb, List, [], refl, ap, sym, ◌∙◌}
+use Rattle.std.proofs.Common.{◌≡◌, ℕ, zero, suc, Bool, eqb, List, refl, ap, sym, ◌∙◌}
 use borrow.Author.Tests.{ne_eqb}
 use Rattle.outcomes.specs.declared.Refusal.{Refusal}
 use Rattle.outcomes.specs.Numbers.{refusal_number}
 use Rattle.outcomes.proofs.Same.{refusal_not_0}
 use Rattle.property.specs.declared.Property.{Property}
 use Rattle.property_form.specs.Read.{PropertyRead, read_numbers, read}
-use Rattle.session_record.specs.declared.Session.{Session}
 use Rattle.session_record.specs.declared.Stepped.{Stepped}
 use Rattle.session_record.specs.Step.{Stepping, stepping_in, fresh_of}
 use Rattle.printout.specs.Text.{stop_text}

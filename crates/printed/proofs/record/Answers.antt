@@ -1,11 +1,10 @@
 -- `printed::record` meets its contract: refusal 10, or the record on what is lent of the session.
-use Rattle.std.proofs.Common.{◌≡◌, ℕ, true, false, Bool, cond, List, sym, ap, ◌∙◌, subst}
+use Rattle.std.proofs.Common.{◌≡◌, ℕ, false, Bool, cond, List, sym, ap, ◌∙◌, subst}
 use Rattle.record_form.specs.Record.{record_answer, read_case}
 use Rattle.trace_form.specs.ReadAs.{ReadAs, case_as, read_as}
 use Rattle.trace_form.proofs.ReadAs.{read-case}
-use Rattle.session_record.specs.declared.Session.{Session}
 use Rattle.session_record.specs.Record.{latest_of, out_of_range}
-use Rattle.session_record.specs.Lent.{Memory, memory, memory_of, record_in}
+use Rattle.session_record.specs.Lent.{Memory, memory_of, record_in}
 use Rattle.session_record.specs.Loan.{memory_in}
 use Rattle.session_record.proofs.Range.{ranged}
 use Rattle.session_record.proofs.Lending.{lends, lent_is}

@@ -1,6 +1,6 @@
 -- `printed::lent::adds` meets its contract: the line of a call that was taken.
 use Rattle.std.specs.Prelude.{Result, Ok}
-use Rattle.std.proofs.Common.{◌≡◌, ℕ, true, false, Bool, List, refl, sym, ap, ◌∙◌}
+use Rattle.std.proofs.Common.{◌≡◌, ℕ, true, false, Bool, refl, sym, ap, ◌∙◌}
 use Rattle.std.specs.Int.{from_bool}
 use Rattle.outcomes.specs.declared.Refusal.{Refusal}
 use Rattle.meaning.specs.Words.{action_of, action_number}
