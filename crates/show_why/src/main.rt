@@ -72,14 +72,14 @@ fn found<W: Write>(
     out: &mut W,
     lent: &Lent<'_>,
     taken: u64,
-    found: Result<Reason, Refusal>,
+    answer: Result<Reason, Refusal>,
     first: &Order,
     second: &Order,
     count: usize,
 )
-    requires { Explained (memory_in lent.now) taken count (reason_in found) (pair_in first.now) (pair_in second.now) }
+    requires { Explained (memory_in lent.now) taken count (reason_in answer) (pair_in first.now) (pair_in second.now) }
 {
-    match found {
+    match answer {
         Ok(reason) => {
             if listing_shell::write(
                 out,
@@ -105,7 +105,7 @@ fn tell<W: Write>(out: &mut W, lent: &Lent<'_>, taken: u64, kept: &Kept)
     }
     let mut first = Order::new();
     let mut second = Order::new();
-    let reason = why::explain(
+    let answer = why::explain(
         lent.steps.property,
         &kept.outputs[..count],
         &kept.actions[..count],
@@ -115,7 +115,7 @@ fn tell<W: Write>(out: &mut W, lent: &Lent<'_>, taken: u64, kept: &Kept)
         &mut second.numbers,
         &mut second.moments,
     );
-    found(out, lent, taken, reason, &first, &second, count);
+    found(out, lent, taken, answer, &first, &second, count);
 }
 
 // Takes the records. The table is made once, and the rows are lent from record to record. A proved loop has to end, and nothing says

@@ -3,4 +3,4 @@ use Rattle.show_why.proofs.Told.{explained}
 use Rattle.show_why.proofs.tell.Goals as goal
 
 pub found-requires : goal.found-requires
-found-requires g c = explained c.args.kept.now _ _ c.requires c.if-count-gt-MOST_LINES.false c.explain-reason.ensures
+found-requires g c = explained c.args.kept.now _ _ c.requires c.if-count-gt-MOST_LINES.false c.explain-answer.ensures
