@@ -8,8 +8,8 @@ use Rattle.answers.proofs.Advances.{Leads, refused_leads, mark_leads}
 use Rattle.gap_mark.proofs.mark.Goals as goal
 use Rattle.gap_mark.proofs.mark.Goals.{After-blinded-reply}
 
-pub returns-in_err-refused : goal.returns-in_err-refused
-returns-in_err-refused c =
+pub returns-in_err-refused-clause-advanced : goal.returns-in_err-refused-clause-advanced
+returns-in_err-refused-clause-advanced c =
     let p = err_from_is_err_and c.from_residual.result c.from_residual.ensures.1 in
     let lent = c.args.lent.now in
     rw (p.1, p.2) (refused_leads (memory_in lent) lent.ready (Calls.mark_at c.args.lost c.args.stamp) c.in_err-refused.field-0.0 (sym c.in_err-refused.ensures))
@@ -24,5 +24,5 @@ marked c =
 pub invariant_of-lent : goal.invariant_of-lent
 invariant_of-lent c = record { ready = (marked (goal.at.invariant_of-lent c).After-blinded-reply).ready }
 
-pub returns : goal.returns
-returns c = marked (goal.at.returns c).After-blinded-reply
+pub returns-clause-advanced : goal.returns-clause-advanced
+returns-clause-advanced c = marked (goal.at.returns-clause-advanced c).After-blinded-reply

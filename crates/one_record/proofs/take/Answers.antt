@@ -30,8 +30,8 @@ returns-in_ok-line-in-Output c =
 pub returns-in_err-mark-in-Gap : goal.returns-in_err-mark-in-Gap
 returns-in_err-mark-in-Gap c =
     let p = err_from_is_err_and c.from_residual-in_err-mark-in-Gap.result c.from_residual-in_err-mark-in-Gap.ensures.1 in
-    refused_known (ap (λ (r : Result Record Refusal). case_as (read_case r)) (c.in_ok-action.was ∙ ap Ok c.in-Gap.is)) c.mark.ensures c.in_err-mark-in-Gap.was (p.1 ∙ ap Err p.2)
+    refused_known (ap (λ (r : Result Record Refusal). case_as (read_case r)) (c.in_ok-action.was ∙ ap Ok c.in-Gap.is)) c.mark.ensures.advanced c.in_err-mark-in-Gap.was (p.1 ∙ ap Err p.2)
 
 pub returns-in_ok-mark-in-Gap : goal.returns-in_ok-mark-in-Gap
 returns-in_ok-mark-in-Gap c =
-    taken_known (ap (λ (r : Result Record Refusal). case_as (read_case r)) (c.in_ok-action.was ∙ ap Ok c.in-Gap.is)) c.mark.ensures c.in_ok-mark-in-Gap.was
+    taken_known (ap (λ (r : Result Record Refusal). case_as (read_case r)) (c.in_ok-action.was ∙ ap Ok c.in-Gap.is)) c.mark.ensures.advanced c.in_ok-mark-in-Gap.was

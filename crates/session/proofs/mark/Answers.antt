@@ -24,4 +24,4 @@ invariant_of-lent c =
 pub returns : goal.returns
 returns c =
     given c.args.s (sym c.unfit.ensures ∙ c.if-unfit.false) c.new-steps.result.property c.new-steps.ensures c.rows_of-rows.result c.rows_of-rows.ensures.0
-    (mark_at c.args.lost c.args.stamp) c.mark-answer.result c.mark-answer.ensures c.given_back.result c.given_back.ensures
+    (mark_at c.args.lost c.args.stamp) c.mark-answer.result c.mark-answer.ensures.advanced c.given_back.result c.given_back.ensures
