@@ -151,9 +151,12 @@ impl Steps {
         requires { property_refusal (meant property) ≡ 0 }
         ensures { result.property ≡ property }
     {
-        let mut table = [0u8; 4257];
         let actions = actions_of(&property);
-        table_of(&actions[..property.n], &mut table);
-        Steps { property, table }
+        let mut steps = Steps {
+            property,
+            table: [0; 4257],
+        };
+        table_of(&actions[..property.n], &mut steps.table);
+        steps
     }
 }

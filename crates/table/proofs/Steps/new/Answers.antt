@@ -23,8 +23,8 @@ table_of-requires c =
     let h = held p c.actions_of-actions.result c.actions_of-actions.ensures.long c.actions_of-actions.ensures.each few in
     record { n_bound = (omega (arith, few, h.long), refl, getD_repeat 0 4257); by_index = numbered p _ h (taken-number p c.requires) }
 
-pub invariant_of-result-clause-made : goal.invariant_of-result-clause-made
-invariant_of-result-clause-made c =
+pub invariant_of-steps-clause-made : goal.invariant_of-steps-clause-made
+invariant_of-steps-clause-made c =
     let p = c.args.property in
     is_table p (take p.n c.actions_of-actions.result) (held p c.actions_of-actions.result c.actions_of-actions.ensures.long c.actions_of-actions.ensures.each (taken_bounds p c.requires).most)
     c.table_of.new.table c.table_of.ensures
