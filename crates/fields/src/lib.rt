@@ -45,8 +45,8 @@ pub fn put_field(list: &mut [u8], start: usize, width: usize, v: u64)
     requires { (start + width ≤ length list.old) × (width ≤ 64) }
     ensures { list.new ≡ paste list.old start (bits width v) width }
 {
-    for (j, place) in list[start..start + width].iter_mut().enumerate() {
-        *place = digit_of(v, width - 1 - j);
+    for j in 0..width {
+        list[start + j] = digit_of(v, width - 1 - j);
     }
 }
 

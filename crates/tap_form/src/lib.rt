@@ -1,7 +1,7 @@
 // The packed record of the tap card (document 02, CR 4): its reader, and the rest behind it.
 #![tactic(auto)]
 
-ghost use Rattle.std.specs.Prelude.{◌≡◌, ◌<◌, ◌≤◌, length};
+ghost use Rattle.std.specs.Prelude.{◌≡◌, ◌+◌, ◌%◌, ◌^◌, ◌<◌, ◌≤◌, length};
 ghost use Rattle.fields.specs.Fields.{field};
 ghost use Rattle.fields.specs.Rest.{Rest};
 ghost use Rattle.record_form.specs.Record.{numbers, read_case, taken, answered};
@@ -22,12 +22,18 @@ fn counter_field(s: &[u8]) -> u32
     u32::from_be_bytes([s[1], s[2], s[3], s[4]])
 }
 
-// The time from the stamp before, whose own counter is what it leaves modulo 2^32: a counter returns to 0 after 4,294,967,295.
+// A counter less an earlier one, which returns to 0 after 4,294,967,295.
+fn less(counter: u32, earlier: u32) -> u32
+    ensures { (result + earlier) % 2 ^ 32 ≡ counter }
+{
+    counter.wrapping_sub(earlier)
+}
+
+// The time from the stamp before, whose own counter is what it leaves modulo 2^32.
 fn time_since(counter: u32, before: u64) -> u64
     ensures { result ≡ since counter before }
 {
-    let earlier = (before % 4_294_967_296) as u32;
-    u64::from(counter.wrapping_sub(earlier))
+    u64::from(less(counter, (before % 4_294_967_296) as u32))
 }
 
 // The record that these fields are: by its kind as in document 01, but that the counter of an end is no time, and is 0, and that the card

@@ -31,8 +31,13 @@ loop-entry-preserved c =
     let l = c.loop-entry in
     let front = c.in-Some.ensures in
     let up : c.from-least.result + 1 ≡ suc (first l.rest.now) = omega (arith, c.from-least.ensures, front.first_byte) in
-    rw (front.rest_bytes, up)
-    (judged_on _ _ _ l.invariant (omega (arith, front.whole)) (sym (judged (goal.at.loop-entry-preserved c).After-breaks_rule) ∙ c.if-breaks_rule.false))
+    grind (
+      arith,
+      common_steps,
+      front.rest_bytes,
+      up,
+      judged_on _ _ _ l.invariant (omega (arith, front.whole)) (sym (judged (goal.at.loop-entry-preserved c).After-breaks_rule) ∙ c.if-breaks_rule.false),
+    )
 
 pub returns : goal.returns
 returns c =
