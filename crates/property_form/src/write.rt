@@ -3,6 +3,7 @@ ghost use Rattle.std.specs.Prelude.{◌≡◌, false, ◌++◌, ◌+◌, ◌-◌
 ghost use Rattle.std.proofs.Math.Seq.{paste};
 ghost use Rattle.laws.specs.Places.{first};
 ghost use Rattle.property.specs.Meant.{meant, action_of};
+ghost use Rattle.fields.specs.Fields.{digit, run};
 ghost use Rattle.property_form.specs.Form.{sequence_bits, property_bits, form_bits};
 
 // The bits of the first n actions, put into a list of bits from place 58.
@@ -16,7 +17,17 @@ fn put_actions(list: &mut [u8], output: [bool; 32], number: [u8; 32], n: usize)
     }
 }
 
-// The bits of the form, and zero bits behind them. Those of the allowed outputs begin with output 0, which is the mask's last bit.
+// The bits of a set of outputs, put into a list of bits. They begin with output 0, which is the mask's last bit.
+fn put_allowed(list: &mut [u8], start: usize, m: u64)
+    requires { start + 64 ≤ length list.old }
+    ensures { list.new ≡ paste list.old start (run (digit m) 0 64) 64 }
+{
+    for k in 0..64 {
+        list[start + k] = fields::digit_of(m, k);
+    }
+}
+
+// The bits of the form, and zero bits behind them.
 pub fn bits_of(p: property::Property) -> [u8; 352]
     requires { p.n ≤ 32 }
     ensures { result ≡ property_bits (meant p) ++ replicate (352 - form_bits p.n) 0 }
@@ -26,6 +37,6 @@ pub fn bits_of(p: property::Property) -> [u8; 352]
     fields::put_field(&mut list, 6, 26, p.lb);
     fields::put_field(&mut list, 32, 26, p.ub);
     put_actions(&mut list, p.output, p.number, p.n);
-    fields::put_field(&mut list, 58 + 7 * p.n, 64, p.allowed.reverse_bits());
+    put_allowed(&mut list, 58 + 7 * p.n, p.allowed);
     list
 }
