@@ -72,7 +72,7 @@ pub use Rattle.demands.proofs.Same.{demand_tap}
 -- What is printed, in the documents' words (`Texts`), with decimal numbers; what a property and a record add to a listing, with names or without.
 pub use Rattle.demands.proofs.Digits.{decimal-reads}
 pub use Rattle.demands.proofs.Texts.{demand_header, demand_last, demand_line, demand_named_line, demand_reached, demand_placed, demand_alone}
-pub use Rattle.demands.proofs.Printed.{text-kept, demand_size, demand_begun, demand_printed, demand_named_record}
+pub use Rattle.demands.proofs.Printed.{text-kept, line-whole, demand_size, demand_begun, demand_printed, demand_named_record}
 -- Names (document 02, CR 2): the lists bit by bit; `names::refused` and `name`, the listing with names.
 pub use Rattle.demands.proofs.Lists.{list_taken, list_back, list_one_packing, one_list, one_entry, two-packed, two-read, size-read, demand_1_lists}
 pub use Rattle.demands.proofs.Names.{demand_1_names, demand_name, name_handed, demand_named}

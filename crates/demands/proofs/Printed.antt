@@ -19,6 +19,7 @@ use Rattle.session_record.specs.Record.{latest_of, count_of, out_of_range}
 use Rattle.session_record.specs.Step.{standing, fresh_of, stepped_of}
 use Rattle.walk.specs.Walk.{One, one_call, one_read, one_of, walk_of}
 use Rattle.line_text.specs.Kept.{kept, Keeps}
+use Rattle.line_text.specs.Text.{room, named_room}
 use Rattle.printout.specs.Text.{stop_text}
 use Rattle.printed.specs.declared.Printed.{Printed}
 use Rattle.printed.specs.Printed.{one_after, last_line, by_one, printed_of, opening_text, begun_of}
@@ -38,6 +39,11 @@ pub text-kept : (l bytes : List ℕ) (len : ℕ) → take len bytes ≡ l
     × (Keeps 144 bytes len → (bytes ≡ l ++ replicate (144 - length l) 0) × (len ≡ length l))
 text-kept l bytes len e =
     (λ h. (sym h.zeros ∙ ap (kept 96) e, sym h.text ∙ ap length e), λ h. (sym h.zeros ∙ ap (kept 144) e, sym h.text ∙ ap length e))
+
+-- `line_text::whole_line` and `whole_named_line` hand back the room of a line, and of one with names: these bytes and no others.
+pub line-whole : (l bytes : List ℕ)
+    → (bytes ≡ kept room l → bytes ≡ l ++ replicate (96 - length l) 0) × (bytes ≡ kept named_room l → bytes ≡ l ++ replicate (144 - length l) 0)
+line-whole l bytes = (λ e. e, λ e. e)
 
 -- `printed::size`: a property's first byte has its length n, and it takes 122 + 7n bits, "to a full byte";
 pub demand_size : (s : List ℕ) → form_size (length_read s) ≡ property_bytes (field s 0 6)

@@ -2,7 +2,8 @@
 #![tactic(auto)]
 
 ghost use Rattle.std.specs.Prelude.{◌≡◌, ◌∷◌, [], ◌++◌, ◌+◌, ◌≤◌, ◌<◌, length};
-ghost use Rattle.line_text.specs.Text.{space, digit, decimal};
+ghost use Rattle.line_text.specs.Text.{space, digit, decimal, room, named_room};
+ghost use Rattle.line_text.specs.Kept.{kept};
 
 use std::marker::Model;
 
@@ -34,6 +35,22 @@ pub type Line = Text<96>;
 
 // A line of the listing with names and its newline.
 pub type NamedLine = Text<144>;
+
+// A line, whole: its bytes, and zeros behind them, 96 in all.
+pub fn whole_line(line: &Line) -> &[u8]
+    ensures bytes { result.now ≡ kept room line.now }
+    ensures size { length result.now ≡ room }
+{
+    line.whole()
+}
+
+// A line with names, whole: its bytes, and zeros behind them, 144 in all.
+pub fn whole_named_line(line: &NamedLine) -> &[u8]
+    ensures bytes { result.now ≡ kept named_room line.now }
+    ensures size { length result.now ≡ named_room }
+{
+    line.whole()
+}
 
 fn digit_of(d: u64) -> u8
     requires { d < 10 }
@@ -110,5 +127,13 @@ impl<const ROOM: usize> Text<ROOM> {
         ensures within { length self.now ≤ ROOM }
     {
         &self.bytes[..self.len]
+    }
+
+    // The room, whole: the bytes of the text, and zeros behind them.
+    pub fn whole(&self) -> &[u8]
+        ensures bytes { result.now ≡ kept ROOM self.now }
+        ensures size { length result.now ≡ ROOM }
+    {
+        &self.bytes[..]
     }
 }
