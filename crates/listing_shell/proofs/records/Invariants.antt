@@ -6,3 +6,6 @@ use Rattle.listing_shell.proofs.records.Given as goal
 
 abbrev pub invariant-loop-turns : goal.invariant-loop-turns
 invariant-loop-turns g l = ListedSoFar l.form l.s.property l.turns (record_in (memory_in l.lent)) l.count
+
+-- A `for` has its own measure, which a loop that counts by hand would have to be given:
+-- what is left of its turns.
