@@ -1,15 +1,16 @@
 // The calls that have nothing to do with a session: the judge, names, the packed forms and the refusal of a property.
 ghost use Rattle.std.specs.Prelude.{◌≤◌};
 
-use crate::numbers;
 use crate::numbers::Answer;
+use crate::{Page, numbers};
 use outcomes::Refusal;
 use record_form::Record;
 use script::arguments::Arguments;
 use script::properties;
 use script::properties::PropertyText;
 use script::text::{Hex, Rest};
-use std::io;
+use std::fmt;
+use std::fmt::Write;
 
 // A buffer to write in has so many bytes at most.
 const BUFFER: usize = 512;
@@ -29,30 +30,30 @@ fn buffer_of(string: &[u8]) -> Buffer {
 }
 
 // The answer of the judge, and the one number for C.
-pub fn judge(rt: &impl Print, arguments: &mut Arguments<'_>) -> io::Result<()> {
+pub fn judge(page: &mut Page, arguments: &mut Arguments<'_>) -> fmt::Result {
     let property = arguments.string();
     let trace = arguments.string();
     let judged = stretch::judge(property, trace);
     let answer = Answer(judged.map(|judged| [u64::from(judged.verdict), judged.count as u64]));
     let number = stretch::anthegyra_stretch_judge(property, trace);
-    println!(rt; "J {answer} {number}")
+    writeln!(page, "J {answer} {number}")
 }
 
-pub fn read_property(rt: &impl Print, arguments: &mut Arguments<'_>) -> io::Result<()> {
+pub fn read_property(page: &mut Page, arguments: &mut Arguments<'_>) -> fmt::Result {
     let form = arguments.string();
     let read = property_form::read_property(form);
     let answer = numbers::refusal(read.map(|_| ()));
     let rest = Rest(property_form::property_rest(form));
-    println!(rt; "P {answer} {rest}")?;
-    rt.print(PropertyText(&read.unwrap_or(property::none())))
+    writeln!(page, "P {answer} {rest}")?;
+    write!(page, "{}", PropertyText(&read.unwrap_or(property::none())))
 }
 
-pub fn write_property(rt: &impl Print, arguments: &mut Arguments<'_>) -> io::Result<()> {
+pub fn write_property(page: &mut Page, arguments: &mut Arguments<'_>) -> fmt::Result {
     let property = properties::read(arguments);
     let Buffer { mut bytes, len } = buffer_of(arguments.string());
     let written = property_form::write_property(property, &mut bytes[..len]);
     let answer = Answer(written.map(|size| [size as u64]));
-    println!(rt; "Q {answer} {}", Hex(&bytes[..len]))
+    writeln!(page, "Q {answer} {}", Hex(&bytes[..len]))
 }
 
 // What a record reader answered: refusal, kind, action (of a gap its number of lost lines), stamp.
@@ -65,24 +66,24 @@ fn read_answer(read: Result<Record, Refusal>) -> Answer<3> {
     }))
 }
 
-pub fn read_record(rt: &impl Print, arguments: &mut Arguments<'_>) -> io::Result<()> {
+pub fn read_record(page: &mut Page, arguments: &mut Arguments<'_>) -> fmt::Result {
     let before = arguments.word();
     let form = arguments.string();
     let read = read_answer(record_form::read_record(form, before));
     let rest = Rest(record_form::record_rest(form, before));
-    println!(rt; "R {read} {rest}")
+    writeln!(page, "R {read} {rest}")
 }
 
 // The same of the tap card's record.
-pub fn read_tap(rt: &impl Print, arguments: &mut Arguments<'_>) -> io::Result<()> {
+pub fn read_tap(page: &mut Page, arguments: &mut Arguments<'_>) -> fmt::Result {
     let before = arguments.word();
     let form = arguments.string();
     let read = read_answer(tap_form::read_tap(form, before));
     let rest = Rest(tap_form::tap_rest(form, before));
-    println!(rt; "K {read} {rest}")
+    writeln!(page, "K {read} {rest}")
 }
 
-pub fn write_record(rt: &impl Print, arguments: &mut Arguments<'_>) -> io::Result<()> {
+pub fn write_record(page: &mut Page, arguments: &mut Arguments<'_>) -> fmt::Result {
     let kind = arguments.byte();
     let action = arguments.byte();
     let stamp = arguments.word();
@@ -90,27 +91,27 @@ pub fn write_record(rt: &impl Print, arguments: &mut Arguments<'_>) -> io::Resul
     let Buffer { mut bytes, len } = buffer_of(arguments.string());
     let written = record_form::write_record(kind, action, stamp, before, &mut bytes[..len]);
     let refusal = numbers::refusal(written);
-    println!(rt; "S {refusal} {}", Hex(&bytes[..len]))
+    writeln!(page, "S {refusal} {}", Hex(&bytes[..len]))
 }
 
-pub fn refused(rt: &impl Print, arguments: &mut Arguments<'_>) -> io::Result<()> {
+pub fn refused(page: &mut Page, arguments: &mut Arguments<'_>) -> fmt::Result {
     let refusal = numbers::refusal(property::refused(properties::read(arguments)));
-    println!(rt; "V {refusal}")
+    writeln!(page, "V {refusal}")
 }
 
 // The refusal of a lookup in a site's and a release's list, and the name.
-pub fn name_of(rt: &impl Print, arguments: &mut Arguments<'_>) -> io::Result<()> {
+pub fn name_of(page: &mut Page, arguments: &mut Arguments<'_>) -> fmt::Result {
     let output = arguments.flag();
     let action = arguments.byte();
     let site = arguments.string();
     let release = arguments.string();
     let refusal = numbers::refusal(names::refused(site, release, output, action));
     let name = Hex(names::name(site, release, output, action));
-    println!(rt; "N {refusal} {name}")
+    writeln!(page, "N {refusal} {name}")
 }
 
 // The number of the interface for C.
-pub fn version(rt: &impl Print) -> io::Result<()> {
+pub fn version(page: &mut Page) -> fmt::Result {
     let number = stretch::anthegyra_version();
-    println!(rt; "v {number}")
+    writeln!(page, "v {number}")
 }

@@ -10,44 +10,49 @@ mod orders;
 mod sessions;
 mod steps;
 
+use arrayvec::ArrayString;
 use script::arguments::Arguments;
 use session_record::Session;
-use std::io;
+use std::fmt::Write;
 use std::io::Read;
+use std::{fmt, io};
 
 // So many bytes of a script are read.
 const MOST: usize = 524288;
 
+// What a call prints is made whole on a page, and then written at once. The longest answer is that of `Y` with its four lists of 512 places.
+type Page = ArrayString<32768>;
+
 // No call has this name: nothing behind it is read.
-fn unknown(rt: &impl Print, name: u8, arguments: &mut Arguments<'_>) -> io::Result<()> {
+fn unknown(page: &mut Page, name: u8, arguments: &mut Arguments<'_>) -> fmt::Result {
     *arguments = Arguments::new(&[]);
-    println!(rt; "? {name}")
+    writeln!(page, "? {name}")
 }
 
 // The call of this name.
 fn call(
-    rt: &impl Print,
+    page: &mut Page,
     name: u8,
     arguments: &mut Arguments<'_>,
     session: &mut Session,
-) -> io::Result<()> {
+) -> fmt::Result {
     match name {
-        b'F' => steps::fresh(rt, arguments, session),
-        b'L' => steps::line(rt, arguments, session),
-        b'G' => steps::mark(rt, arguments, session),
-        b'W' => steps::walk_on(rt, arguments, session),
-        b'T' => steps::given(rt, arguments, session),
-        b'J' => forms::judge(rt, arguments),
-        b'K' => forms::read_tap(rt, arguments),
-        b'N' => forms::name_of(rt, arguments),
-        b'P' => forms::read_property(rt, arguments),
-        b'Q' => forms::write_property(rt, arguments),
-        b'R' => forms::read_record(rt, arguments),
-        b'S' => forms::write_record(rt, arguments),
-        b'V' => forms::refused(rt, arguments),
-        b'Y' => orders::explain(rt, arguments),
-        b'v' => forms::version(rt),
-        _ => unknown(rt, name, arguments),
+        b'F' => steps::fresh(page, arguments, session),
+        b'L' => steps::line(page, arguments, session),
+        b'G' => steps::mark(page, arguments, session),
+        b'W' => steps::walk_on(page, arguments, session),
+        b'T' => steps::given(page, arguments, session),
+        b'J' => forms::judge(page, arguments),
+        b'K' => forms::read_tap(page, arguments),
+        b'N' => forms::name_of(page, arguments),
+        b'P' => forms::read_property(page, arguments),
+        b'Q' => forms::write_property(page, arguments),
+        b'R' => forms::read_record(page, arguments),
+        b'S' => forms::write_record(page, arguments),
+        b'V' => forms::refused(page, arguments),
+        b'Y' => orders::explain(page, arguments),
+        b'v' => forms::version(page),
+        _ => unknown(page, name, arguments),
     }
 }
 
@@ -55,12 +60,16 @@ fn call(
 fn run(rt: &impl Print, script: &[u8]) -> io::Result<()> {
     let mut arguments = Arguments::new(script);
     let mut session = sessions::read(&mut Arguments::new(&[]));
+    let mut page = Page::new();
     for _ in script {
         let name = arguments.byte();
         if name == 0 {
             break;
         }
-        call(rt, name, &mut arguments, &mut session)?;
+        page.clear();
+        // What does not fit is left out.
+        let _ = call(&mut page, name, &mut arguments, &mut session);
+        rt.write_all(page.as_str().as_bytes())?;
     }
     Ok(())
 }

@@ -1,12 +1,14 @@
 // The orders of a run: `why::explain` and the four lists that it is lent.
 ghost use Rattle.std.specs.Prelude.{◌≤◌};
 
+use crate::Page;
 use crate::numbers::Answer;
 use script::arguments::Arguments;
 use script::lines::MOST;
 use script::text::Numbers;
 use script::{lines, properties};
-use std::io;
+use std::fmt;
+use std::fmt::Write;
 
 // A number of places: a list has as many at most as a run has lines.
 fn places(arguments: &mut Arguments<'_>) -> usize
@@ -16,7 +18,7 @@ fn places(arguments: &mut Arguments<'_>) -> usize
 }
 
 // A property, the number of lines, the lines, the sizes of the lists.
-pub fn explain(rt: &impl Print, arguments: &mut Arguments<'_>) -> io::Result<()> {
+pub fn explain(page: &mut Page, arguments: &mut Arguments<'_>) -> fmt::Result {
     let property = properties::read(arguments);
     let run = lines::read(arguments);
     let a = places(arguments);
@@ -38,9 +40,9 @@ pub fn explain(rt: &impl Print, arguments: &mut Arguments<'_>) -> io::Result<()>
         &mut moments2[..d],
     );
     let answer = Answer(reason.map(|reason| [u64::from(reason.verdict), reason.line]));
-    println!(rt; "Y {answer}")?;
-    println!(rt; "numbers{}", Numbers(&numbers[..a]))?;
-    println!(rt; "moments{}", Numbers(&moments[..b]))?;
-    println!(rt; "numbers2{}", Numbers(&numbers2[..c]))?;
-    println!(rt; "moments2{}", Numbers(&moments2[..d]))
+    writeln!(page, "Y {answer}")?;
+    writeln!(page, "numbers{}", Numbers(&numbers[..a]))?;
+    writeln!(page, "moments{}", Numbers(&moments[..b]))?;
+    writeln!(page, "numbers2{}", Numbers(&numbers2[..c]))?;
+    writeln!(page, "moments2{}", Numbers(&moments2[..d]))
 }

@@ -1,59 +1,48 @@
 // The calls on the session, which keep the one that they leave.
 use crate::numbers::Answer;
-use crate::sessions;
 use crate::sessions::SessionText;
+use crate::{Page, sessions};
 use script::arguments::Arguments;
 use script::properties;
 use script::text::Rest;
 use session_record::{Session, Stepped};
-use std::io;
+use std::fmt;
+use std::fmt::Write;
 use walk::Stop;
 
 // The answer to fresh, line and mark.
-fn keep(rt: &impl Print, name: char, stepped: Stepped, session: &mut Session) -> io::Result<()> {
+fn keep(page: &mut Page, name: char, stepped: Stepped, session: &mut Session) -> fmt::Result {
     let answer = Answer(
         stepped
             .answer
             .map(|told| [u64::from(told.verdict), told.open_count]),
     );
     *session = stepped.session;
-    println!(rt; "{name} {answer}")?;
-    rt.print(SessionText(session))
+    writeln!(page, "{name} {answer}")?;
+    write!(page, "{}", SessionText(session))
 }
 
-pub fn fresh(
-    rt: &impl Print,
-    arguments: &mut Arguments<'_>,
-    session: &mut Session,
-) -> io::Result<()> {
+pub fn fresh(page: &mut Page, arguments: &mut Arguments<'_>, session: &mut Session) -> fmt::Result {
     let property = properties::read(arguments);
-    keep(rt, 'F', session::fresh(property), session)
+    keep(page, 'F', session::fresh(property), session)
 }
 
-pub fn line(
-    rt: &impl Print,
-    arguments: &mut Arguments<'_>,
-    session: &mut Session,
-) -> io::Result<()> {
+pub fn line(page: &mut Page, arguments: &mut Arguments<'_>, session: &mut Session) -> fmt::Result {
     let output = arguments.flag();
     let action = arguments.byte();
     let stamp = arguments.word();
     keep(
-        rt,
+        page,
         'L',
         session::line(*session, output, action, stamp),
         session,
     )
 }
 
-pub fn mark(
-    rt: &impl Print,
-    arguments: &mut Arguments<'_>,
-    session: &mut Session,
-) -> io::Result<()> {
+pub fn mark(page: &mut Page, arguments: &mut Arguments<'_>, session: &mut Session) -> fmt::Result {
     let lost = arguments.byte();
     let stamp = arguments.word();
-    keep(rt, 'G', session::mark(*session, lost, stamp), session)
+    keep(page, 'G', session::mark(*session, lost, stamp), session)
 }
 
 // How it stopped: 0 by its budget, 1 at an end, 2 at a refusal; and the refusal.
@@ -66,30 +55,27 @@ fn stop_numbers(stop: Stop) -> (u64, u64) {
 }
 
 pub fn walk_on(
-    rt: &impl Print,
+    page: &mut Page,
     arguments: &mut Arguments<'_>,
     session: &mut Session,
-) -> io::Result<()> {
+) -> fmt::Result {
     let budget = arguments.size();
     let trace = arguments.string();
     let walked = walk::walk(*session, trace, budget);
     let (stop, refusal) = stop_numbers(walked.stop);
     let rest = Rest(walk::walk_rest(trace, walked.read));
     *session = walked.session;
-    println!(rt;
+    writeln!(
+        page,
         "W {} {stop} {refusal} {} {} {rest}",
         walked.taken, walked.read, walked.lost
     )?;
-    rt.print(SessionText(session))
+    write!(page, "{}", SessionText(session))
 }
 
 // The session is the one in the script.
-pub fn given(
-    rt: &impl Print,
-    arguments: &mut Arguments<'_>,
-    session: &mut Session,
-) -> io::Result<()> {
+pub fn given(page: &mut Page, arguments: &mut Arguments<'_>, session: &mut Session) -> fmt::Result {
     *session = sessions::read(arguments);
-    println!(rt; "T")?;
-    rt.print(SessionText(session))
+    writeln!(page, "T")?;
+    write!(page, "{}", SessionText(session))
 }

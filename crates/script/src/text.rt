@@ -1,6 +1,6 @@
 // What calls print: numbers, lists of them and bytes.
-use std::fmt;
 use std::fmt::{Display, Formatter};
+use std::{fmt, str};
 
 // Numbers, with a space before each.
 #[derive(Clone, Copy)]
@@ -23,6 +23,9 @@ pub fn used(list: &[u64]) -> Numbers<'_, u64> {
     }
 }
 
+// Bytes are put into digits, and the digits are written, so many bytes at a time.
+const PART: usize = 64;
+
 // Bytes in hex, behind their number and a colon.
 #[derive(Clone, Copy)]
 pub struct Hex<'a>(pub &'a [u8]);
@@ -31,8 +34,11 @@ impl Display for Hex<'_> {
     fn fmt<W: fmt::Write>(&self, f: &mut Formatter<W>) -> fmt::Result {
         let bytes = self.0;
         write!(f, "{}:", bytes.len())?;
-        for byte in bytes {
-            write!(f, "{byte:02x}")?;
+        for part in bytes.chunks(PART) {
+            let mut room = [0; 2 * PART];
+            let digits = &mut room[..2 * part.len()];
+            hex::encode_to_slice(part, digits).map_err(|_| fmt::Error)?;
+            f.write_str(str::from_utf8(digits).map_err(|_| fmt::Error)?)?;
         }
         Ok(())
     }
