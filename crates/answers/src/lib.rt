@@ -7,7 +7,7 @@ ghost use Rattle.meaning.specs.Numbers.{given, first_of};
 ghost use Rattle.meaning.specs.Calls.{stamp_refusal};
 ghost use Rattle.outcomes.specs.Numbers.{refusal_in, verdict_meant};
 ghost use Rattle.cuts.specs.Steps.{verdict_by};
-ghost use Rattle.session_record.specs.Lent.{held_in};
+ghost use Rattle.session_record.specs.Lent.{memory, held_in, Ready};
 ghost use Rattle.session_record.specs.Loan.{memory_in};
 ghost use Rattle.rows.specs.Rows.{none};
 ghost use Rattle.clock.specs.Time.{clock_of};
@@ -16,6 +16,8 @@ use clock::Clock;
 use held::Status;
 use limits::LAST_ACTION;
 use outcomes::{Refusal, Verdict};
+use property::Property;
+use rows::Words;
 use session_record::{Lent, Told};
 
 // What is told of a call that is taken, and what stands beside the rows after it.
@@ -29,11 +31,19 @@ pub struct Reply {
 pub fn standing(lent: &Lent<'_>) -> Verdict
     ensures { verdict_meant result ≡ verdict_by lent.now.steps.now.property (held_in (memory_in lent.now)) }
 {
-    let Status { span, clock } = lent.status;
+    standing_on(lent.steps.property, lent.rows, lent.status)
+}
+
+// The same of a property, rows and what stands beside them. The property is there for the contract alone.
+pub fn standing_on(p: Property, rows: &[Words], status: Status) -> Verdict
+    requires { Ready (memory p rows.now status) }
+    ensures { verdict_meant result ≡ verdict_by p (held_in (memory p rows.now status)) }
+{
+    let Status { span, clock } = status;
     if clock.blind {
         return Verdict::Blind;
     }
-    cuts::verdict(lent.rows, span, 0)
+    cuts::verdict(rows, span, 0)
 }
 
 // No run is open.

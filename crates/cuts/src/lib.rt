@@ -70,7 +70,7 @@ pub fn verdict(rows: &[Words], span: Span, j: usize) -> Verdict
 // The new set of the cut after an open input, when an output comes: the output directly behind that input, if the input
 // may stand before it, or at an earlier cut, with that input behind it.
 fn swept_cut(
-    steps: &Steps,
+    steps: &Steps<'_>,
     action: u64,
     stamp: u64,
     held: u64,
@@ -91,7 +91,7 @@ fn swept_cut(
 
 // An output goes through the cuts of property j. A turn reads and stores at one index alone, so that its place is found once: the open
 // input before the next cut is read a turn ahead.
-pub fn sweep(steps: &Steps, rows: &mut [Words], span: Span, j: usize, action: u64, stamp: u64)
+pub fn sweep(steps: &Steps<'_>, rows: &mut [Words], span: Span, j: usize, action: u64, stamp: u64)
     requires { Usable steps.now.property rows.old span j }
     ensures { Swept steps.now.property span j action stamp rows.old rows.new }
 {
@@ -110,7 +110,7 @@ pub fn sweep(steps: &Steps, rows: &mut [Words], span: Span, j: usize, action: u6
 }
 
 // A new input comes last: one more cut of property j behind it.
-pub fn append(steps: &Steps, rows: &mut [Words], span: Span, j: usize, action: u64)
+pub fn append(steps: &Steps<'_>, rows: &mut [Words], span: Span, j: usize, action: u64)
     requires { Usable steps.now.property rows.old span j × (span.count < 64) }
     ensures { Appended steps.now.property span j action rows.old rows.new }
 {
@@ -122,7 +122,7 @@ pub fn append(steps: &Steps, rows: &mut [Words], span: Span, j: usize, action: u
 // One line of a run, taken: the first `closed` open inputs give their places up, then an output goes through the cuts, or an
 // input comes last.
 pub fn take_line(
-    steps: &Steps,
+    steps: &Steps<'_>,
     rows: &mut [Words],
     span: Span,
     closed: usize,

@@ -35,7 +35,7 @@ fn reaches(breaking: bool, verdict: Verdict) -> bool
 }
 
 // The order with the line at place k behind it.
-fn with_line(steps: &Steps, from: Reached, output: bool, action: u8, k: usize) -> Reached
+fn with_line(steps: &Steps<'_>, from: Reached, output: bool, action: u8, k: usize) -> Reached
     requires { Fits steps.now.property from.cut × (k + 1 < 2 ^ 64) }
     ensures { (result ≡ Search.with_line steps.now.property from output action k) × Fits steps.now.property result.cut }
 {
@@ -57,7 +57,7 @@ fn with_line(steps: &Steps, from: Reached, output: bool, action: u8, k: usize) -
 
 // The place of the next line of the order: the output, wherever the wanted end can still be reached behind it.
 fn choice(
-    steps: &Steps,
+    steps: &Steps<'_>,
     output: &[bool],
     action: &[u8],
     stamp: &[u64],
@@ -87,7 +87,7 @@ fn choice(
 
 // The numbers of the lines of the first order with the wanted end.
 fn order(
-    steps: &Steps,
+    steps: &Steps<'_>,
     output: &[bool],
     action: &[u8],
     stamp: &[u64],
@@ -113,7 +113,7 @@ fn order(
 
 // An order and its moments.
 pub fn write(
-    steps: &Steps,
+    steps: &Steps<'_>,
     output: &[bool],
     action: &[u8],
     stamp: &[u64],

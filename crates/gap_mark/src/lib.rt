@@ -1,24 +1,32 @@
-// A gap mark on lent rows, of which it changes none: what they hold is not in use while blind.
+// A gap mark on lent rows, in which it changes nothing: what they hold is not in use while blind.
 #![tactic(auto)]
 
-ghost use Rattle.std.specs.Prelude.{◌≡◌};
+ghost use Rattle.std.specs.Prelude.{Ok, Err, MatchResult};
 ghost use Rattle.meaning.specs.Calls.{mark_at};
-ghost use Rattle.session_record.specs.Lent.{Advanced};
+ghost use Rattle.session_record.specs.Lent.{memory, Ready, Advanced};
 ghost use Rattle.session_record.specs.Step.{answer_in};
-ghost use Rattle.session_record.specs.Loan.{memory_in};
 
-use session_record::{Answer, Lent};
+use answers::Reply;
+use held::Status;
+use outcomes::Refusal;
+use property::Property;
+use rows::Words;
 
-// A gap mark, with the number of lost lines.
-pub fn mark(lent: &mut Lent<'_>, lost: u8, stamp: u64) -> Answer
-    ensures advanced { Advanced (memory_in lent.old) (mark_at lost stamp) (answer_in result) (memory_in lent.new) }
-    ensures same_rows { lent.new.rows.now ≡ lent.old.rows.now }
-    ensures same_steps { lent.new.steps ≡ lent.old.steps }
+// A gap mark, with the number of lost lines. Refused, it leaves what stands beside the rows as it was.
+pub fn mark(
+    p: Property,
+    rows: &[Words],
+    status: Status,
+    lost: u8,
+    stamp: u64,
+) -> Result<Reply, Refusal>
+    requires { Ready (memory p rows.now status) }
+    ensures { MatchResult result
+        (λ reply. Advanced (memory p rows.now status) (mark_at lost stamp) (answer_in (Ok reply.told)) (memory p rows.now reply.status))
+        (λ refusal. Advanced (memory p rows.now status) (mark_at lost stamp) (answer_in (Err refusal)) (memory p rows.now status)) }
 {
-    let clock = lent.status.clock;
+    let clock = status.clock;
     answers::refused(lost, clock, stamp)?;
-    let closing = answers::standing(lent);
-    let reply = answers::blinded(closing, clock::marked(clock, stamp));
-    lent.status = reply.status;
-    Ok(reply.told)
+    let closing = answers::standing_on(p, rows, status);
+    Ok(answers::blinded(closing, clock::marked(clock, stamp)))
 }

@@ -28,7 +28,9 @@ fn closed(lent: &Lent<'_>, stamp: u64) -> usize
 
 // A line.
 pub fn line(lent: &mut Lent<'_>, line: Line) -> Answer
-    ensures { Advanced (memory_in lent.old) (Call.line (line_of line.output line.action line.stamp)) (answer_in result) (memory_in lent.new) }
+    ensures advanced { Advanced (memory_in lent.old) (Call.line (line_of line.output line.action line.stamp)) (answer_in result) (memory_in lent.new) }
+    ensures same_rows { lent.new.rows.ghost_name ≡ lent.old.rows.ghost_name }
+    ensures same_steps { lent.new.steps ≡ lent.old.steps }
 {
     let Status { span, clock } = lent.status;
     let stamp = line.stamp;

@@ -80,7 +80,7 @@ fn turn(
 
 // Judges the lines that are not yet in the order. Behind a refusal nothing is judged.
 pub fn judge(
-    steps: &Steps,
+    steps: &Steps<'_>,
     output: &[bool],
     action: &[u8],
     stamp: &[u64],

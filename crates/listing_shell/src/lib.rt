@@ -131,7 +131,9 @@ fn put<W: Write>(out: &mut W, form: Form, p: Property, records: u64, text: Line,
 fn records<R: Read, W: Write>(input: &mut R, out: &mut W, form: Form, s: Session)
     requires { (s ≡ (fresh_of s.property).session) × (out_of_range s ≡ false) }
 {
-    let steps = Steps::new(s.property);
+    let mut table = [0; 4257];
+    table::fill(s.property, &mut table);
+    let steps = Steps::new(s.property, &table);
     let mut rows = rows_of(s);
     let mut lent = Lent {
         steps: &steps,

@@ -95,11 +95,11 @@ fn arranged(n: usize, free: u64, still: u64, broken: bool) -> Cut
 
 // The states that those of a cut move to at an action: an output outside the set breaks those that are armed, an allowed one
 // disarms them, an input keeps them armed.
-pub fn moved(steps: &Steps, cut: Cut, output: bool, action: u64) -> Cut
+pub fn moved(steps: &Steps<'_>, cut: Cut, output: bool, action: u64) -> Cut
     requires { Fits steps.now.property cut }
     ensures { Moved steps.now.property cut (action_of output action) result }
 {
-    let table = &steps.table;
+    let table = steps.table;
     let n = steps.property.n;
     let at = table::row(output, action);
     let armed_lengths = cut.armed / 2;

@@ -5,14 +5,13 @@ use native.Mathlib.Omega.{arith}
 use mathlib.Core.Path.{◌≡◌, refl, sym, ◌∙◌, ap, subst}
 use Rattle.meaning.specs.Calls.{Call}
 use Rattle.outcomes.specs.declared.Refusal.{Refusal}
-use Rattle.outcomes.specs.Numbers.{refusal_number}
 use Rattle.outcomes.proofs.Same.{refusal_not_0}
 use Rattle.trace_form.specs.ReadAs.{ReadAs}
 use Rattle.session_record.specs.declared.Told.{Told}
 use Rattle.session_record.specs.Step.{Answer, Stepping, answer_in, stepped_of}
 use Rattle.session_record.specs.Lent.{Memory, record_in, Advanced}
 use Rattle.one_record.specs.declared.Did.{Did}
-use Rattle.one_record.specs.Doing.{Doing, doing_in, by_answer, doing_of, session_after}
+use Rattle.one_record.specs.Doing.{Doing, doing_in, by_answer}
 use Rattle.one_record.specs.Takes.{Takes}
 
 -- ---- a call that was taken, or refused

@@ -64,7 +64,9 @@ pub fn take(
     read: Result<Record, Refusal>,
 ) -> Result<Did, Refusal>
     requires { kept.old.count + 1 < 2 ^ 64 }
-    ensures { Goes (memory_in lent.old) kept.old (case_as (read_case read)) (doing_in result) (memory_in lent.new) kept.new }
+    ensures goes { Goes (memory_in lent.old) kept.old (case_as (read_case read)) (doing_in result) (memory_in lent.new) kept.new }
+    ensures same_rows { lent.new.rows.ghost_name ≡ lent.old.rows.ghost_name }
+    ensures same_steps { lent.new.steps ≡ lent.old.steps }
 {
     let did = one_record::take(lent, read)?;
     let blind = lent.status.clock.blind;

@@ -74,7 +74,9 @@ fn adds(did: Result<Did, Refusal>, count: u64) -> Added
 
 // A record as it was read, after `count` that were taken.
 pub fn record(lent: &mut Lent<'_>, count: u64, read: Result<Record, Refusal>) -> Added
-    ensures { Adds (memory_in lent.old) count (case_as (read_case read)) result (memory_in lent.new) }
+    ensures adds { Adds (memory_in lent.old) count (case_as (read_case read)) result (memory_in lent.new) }
+    ensures same_rows { lent.new.rows.ghost_name ≡ lent.old.rows.ghost_name }
+    ensures same_steps { lent.new.steps ≡ lent.old.steps }
 {
     let did = one_record::take(lent, read);
     adds(did, count)

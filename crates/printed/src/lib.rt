@@ -10,7 +10,7 @@ ghost use Rattle.printed.specs.Printed.{printed_of, begun_of};
 
 use line_text::Line;
 use outcomes::Refusal;
-use session_record::{Lent, Session, made, rows_of, unfit};
+use session_record::{Lent, Session, rows_of, unfit};
 use table::Steps;
 
 // What one part of the input adds to the listing, and what the next part starts from.
@@ -36,7 +36,9 @@ pub fn record(s: Session, count: u64, bytes: &[u8]) -> Printed
             more: false,
         };
     }
-    let steps = Steps::new(s.property);
+    let mut table = [0; 4257];
+    table::fill(s.property, &mut table);
+    let steps = Steps::new(s.property, &table);
     let mut rows = rows_of(s);
     let mut lent = Lent {
         steps: &steps,
@@ -47,7 +49,7 @@ pub fn record(s: Session, count: u64, bytes: &[u8]) -> Printed
     let added = lent::record(&mut lent, count, read);
     Printed {
         text: added.text,
-        session: if added.more { made(&lent) } else { s },
+        session: if added.more { lent.made() } else { s },
         count: added.count,
         more: added.more,
     }

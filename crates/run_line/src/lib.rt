@@ -31,7 +31,7 @@ pub fn begin(rows: &mut [Words]) -> Span
 
 // One line of the run that the rows hold, for which there is room. `clock` is the one after it.
 pub fn run_on(
-    steps: &Steps,
+    steps: &Steps<'_>,
     rows: &mut [Words],
     span: Span,
     clock: Clock,
@@ -62,7 +62,7 @@ pub fn run_on(
 }
 
 // The first line of a run. `clock` is the one after it.
-pub fn begin_with(steps: &Steps, rows: &mut [Words], clock: Clock, line: Line) -> Reply
+pub fn begin_with(steps: &Steps<'_>, rows: &mut [Words], clock: Clock, line: Line) -> Reply
     requires { Room rows.old none × (3 < length rows.old) × (line.stamp ≤ last_stamp) }
     ensures { LineTaken steps.now.property
         (front_after steps.now.property (front_fresh steps.now.property) (line_of line.output line.action line.stamp)) clock rows.new result }

@@ -1,16 +1,14 @@
 // The calls on a session, by value: fresh, line, gap mark.
 #![tactic(auto)]
 
-ghost use Rattle.std.specs.Prelude.{◌≡◌, Ok, Err, MatchResult};
+ghost use Rattle.std.specs.Prelude.{◌≡◌, Err};
 ghost use Rattle.meaning.specs.Calls.{Call, mark_at};
 ghost use Rattle.cuts.specs.Steps.{line_of};
 ghost use Rattle.session_record.specs.Step.{fresh_of, stepped_of, stepping_in};
-ghost use Rattle.session_record.specs.Lent.{record_in};
-ghost use Rattle.session_record.specs.Loan.{memory_in};
 
 use outcomes::{Refusal, Verdict};
 use property::{Line, Property};
-use session_record::{Answer, Lent, Session, Stepped, Told, blank, made, rows_of, unfit};
+use session_record::{Lent, Session, Stepped, Told, blank, made, rows_of, unfit};
 use table::Steps;
 
 // "a session given comes back as it was"
@@ -20,20 +18,6 @@ fn unmoved(s: Session, refusal: Refusal) -> Stepped
     Stepped {
         answer: Err(refusal),
         session: s,
-    }
-}
-
-// What a call gives back that was made on what is lent of a session.
-fn given_back(s: Session, lent: &Lent<'_>, answer: Answer) -> Stepped
-    ensures { MatchResult answer (λ told. result ≡ record { answer = Ok told; session = record_in (memory_in lent.now) })
-        (λ refusal. result ≡ record { answer = Err refusal; session = s }) }
-{
-    match answer {
-        Ok(told) => Stepped {
-            answer: Ok(told),
-            session: made(lent),
-        },
-        Err(refusal) => unmoved(s, refusal),
     }
 }
 
@@ -61,7 +45,9 @@ pub fn line(s: Session, output: bool, action: u8, stamp: u64) -> Stepped
     if unfit(s) {
         return unmoved(s, Refusal::OutOfRange);
     }
-    let steps = Steps::new(s.property);
+    let mut table = [0; 4257];
+    table::fill(s.property, &mut table);
+    let steps = Steps::new(s.property, &table);
     let mut rows = rows_of(s);
     let mut lent = Lent {
         steps: &steps,
@@ -73,8 +59,14 @@ pub fn line(s: Session, output: bool, action: u8, stamp: u64) -> Stepped
         action,
         stamp,
     };
-    let answer = in_place::line(&mut lent, line);
-    given_back(s, &lent, answer)
+    let told = match in_place::line(&mut lent, line) {
+        Ok(told) => told,
+        Err(refusal) => return unmoved(s, refusal),
+    };
+    Stepped {
+        answer: Ok(told),
+        session: lent.made(),
+    }
 }
 
 // A gap mark: the number of lost lines, 63 for more or unknown, and its stamp.
@@ -84,13 +76,12 @@ pub fn mark(s: Session, lost: u8, stamp: u64) -> Stepped
     if unfit(s) {
         return unmoved(s, Refusal::OutOfRange);
     }
-    let steps = Steps::new(s.property);
-    let mut rows = rows_of(s);
-    let mut lent = Lent {
-        steps: &steps,
-        rows: &mut rows,
-        status: s.shared.status,
-    };
-    let answer = gap_mark::mark(&mut lent, lost, stamp);
-    given_back(s, &lent, answer)
+    let rows = rows_of(s);
+    match gap_mark::mark(s.property, &rows, s.shared.status, lost, stamp) {
+        Ok(reply) => Stepped {
+            answer: Ok(reply.told),
+            session: made(s.property, &rows, reply.status),
+        },
+        Err(refusal) => unmoved(s, refusal),
+    }
 }

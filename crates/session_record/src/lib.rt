@@ -7,7 +7,7 @@ ghost use Rattle.std.specs.Prelude.{◌+◌, ◌≤◌, ◌<◌, ◌≡◌, cond
 ghost use Rattle.rows.specs.declared.Span.{Span};
 ghost use Rattle.rows.specs.Rows.{Within, Room};
 ghost use Rattle.session_record.specs.Record.{rows_of, out_of_range};
-ghost use Rattle.session_record.specs.Lent.{record_in, of_arrays, packed_pair, packed_of, blank};
+ghost use Rattle.session_record.specs.Lent.{memory, record_in, Ready, of_arrays, packed_pair, packed_of, blank};
 ghost use Rattle.session_record.specs.Loan.{memory_in};
 
 use clock::Clock;
@@ -145,12 +145,22 @@ fn cuts_in_use(count: usize, blind: bool) -> usize
 }
 
 // The record for the caller, of what the rows hold: nothing stands in places not in use.
-pub fn made(lent: &Lent<'_>) -> Session
-    ensures { result ≡ record_in (memory_in lent.now) }
+pub fn made(p: Property, rows: &[Words], status: Status) -> Session
+    requires { Ready (memory p rows.now status) }
+    ensures { result ≡ record_in (memory p rows.now status) }
 {
-    let Status { span, clock } = lent.status;
+    let Status { span, clock } = status;
     let cuts = cuts_in_use(span.count, clock.blind);
-    stored(lent.steps.property, lent.rows, span, cuts, clock)
+    stored(p, rows, span, cuts, clock)
+}
+
+impl Lent<'_> {
+    // The record for the caller, of what is lent.
+    pub fn made(&self) -> Session
+        ensures { result ≡ record_in (memory_in self.now) }
+    {
+        made(self.steps.property, self.rows, self.status)
+    }
 }
 
 // A record with no open input, its one cut as given.

@@ -9,7 +9,7 @@ use table::Steps;
 // from it.
 #[derive(Drop)]
 pub struct Lent<'a> {
-    pub steps: &'a Steps,
+    pub steps: &'a Steps<'a>,
     pub rows: &'a mut [Words],
     pub status: Status,
     pub ghost ready: { Ready (memory steps.now.property rows.now status) },

@@ -123,7 +123,9 @@ fn tell<W: Write>(out: &mut W, lent: &Lent<'_>, taken: u64, kept: &Kept)
 fn records<R: Read, W: Write>(input: &mut R, out: &mut W, p: Property)
     requires { property_refusal (meant p) ≡ 0 }
 {
-    let steps = Steps::new(p);
+    let mut table = [0; 4257];
+    table::fill(p, &mut table);
+    let steps = Steps::new(p, &table);
     let fresh = session::fresh(p).session;
     let mut rows = session_record::rows_of(fresh);
     let mut lent = Lent {

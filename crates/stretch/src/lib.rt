@@ -26,22 +26,15 @@ pub struct Judged {
     pub count: usize,
 }
 
-// Made in a frame of its own, which is gone when the trace is walked in another: in one frame the table would be on the stack of the C call
-// three times.
-#[inline(never)]
-fn steps_of(p: Property) -> Steps
-    requires { property_refusal (meant p) ≡ 0 }
-    ensures { result.property ≡ p }
-{
-    Steps::new(p)
-}
-
 // The trace, by a property that is taken.
-#[inline(never)]
-fn trace_verdict(steps: Steps, trace: &[u8]) -> Result<Judged, Refusal>
-    ensures { judged_in result ≡ trace_judged steps.property trace.now }
+fn trace_verdict(p: Property, trace: &[u8]) -> Result<Judged, Refusal>
+    requires { property_refusal (meant p) ≡ 0 }
+    ensures { judged_in result ≡ trace_judged p trace.now }
 {
-    let s = session::fresh(steps.property).session;
+    let mut table = [0; 4257];
+    table::fill(p, &mut table);
+    let steps = Steps::new(p, &table);
+    let s = session::fresh(p).session;
     let mut rows = rows_of(s);
     let mut lent = Lent {
         steps: &steps,
@@ -77,7 +70,7 @@ pub fn judge(property: &[u8], trace: &[u8]) -> Result<Judged, Refusal>
     if property_form::form_bytes(p.n) < property.len() {
         return Err(Refusal::Broken);
     }
-    trace_verdict(steps_of(p), trace)
+    trace_verdict(p, trace)
 }
 
 // The same in one number, for C: refusal × 65,536 + verdict × 16,384 + count.

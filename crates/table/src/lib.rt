@@ -1,7 +1,7 @@
 // The table of matched lengths: how long a beginning of a property's sequence ends what has happened after one more action.
 #![tactic(auto)]
 
-ghost use Rattle.std.specs.Prelude.{ℕ, ◌+◌, ◌≤◌, ◌<◌, ◌≡◌, length, get_or};
+ghost use Rattle.std.specs.Prelude.{ℕ, ◌+◌, ◌≤◌, ◌<◌, ◌≡◌, length, get_or, replicate};
 ghost use Rattle.meaning.specs.Matcher;
 ghost use Rattle.meaning.specs.Numbers.{property_refusal};
 ghost use Rattle.property.specs.Meant.{action_of, meant};
@@ -137,26 +137,29 @@ fn actions_of(p: &Property) -> [Action; 32]
     })
 }
 
-// A property that refusals 1, 2 and 3 do not name, and the table of its steps: made once, and lent to every line.
-#[derive(Clone, Copy)]
-pub struct Steps {
-    pub property: Property,
-    pub table: Table,
-    pub ghost formed: { property_refusal (meant property) ≡ 0 },
-    pub ghost made: { IsTable property table },
+// Makes the table of a property's steps of one of zeros. It is lent, since 4 KB that are handed back are copied on their way.
+pub fn fill(p: Property, table: &mut Table)
+    requires { (property_refusal (meant p) ≡ 0) × (table.old ≡ replicate 4257 0) }
+    ensures { IsTable p table.new }
+{
+    let actions = actions_of(&p);
+    table_of(&actions[..p.n], table);
 }
 
-impl Steps {
-    pub fn new(property: Property) -> Self
-        requires { property_refusal (meant property) ≡ 0 }
+// A property that refusals 1, 2 and 3 do not name, and the table of its steps: made once, and lent to every line.
+#[derive(Clone, Copy)]
+pub struct Steps<'a> {
+    pub property: Property,
+    pub table: &'a Table,
+    pub ghost formed: { property_refusal (meant property) ≡ 0 },
+    pub ghost made: { IsTable property table.now },
+}
+
+impl<'a> Steps<'a> {
+    pub fn new(property: Property, table: &'a Table) -> Self
+        requires { (property_refusal (meant property) ≡ 0) × IsTable property table.now }
         ensures { result.property ≡ property }
     {
-        let actions = actions_of(&property);
-        let mut steps = Steps {
-            property,
-            table: [0; 4257],
-        };
-        table_of(&actions[..property.n], &mut steps.table);
-        steps
+        Steps { property, table }
     }
 }

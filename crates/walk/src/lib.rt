@@ -10,7 +10,7 @@ ghost use Rattle.walk.specs.Lent.{HasGone};
 use one_record::Did;
 use outcomes::Refusal;
 use record_form::RECORD_SIZE;
-use session_record::{Lent, Session, made, rows_of, unfit};
+use session_record::{Lent, Session, rows_of, unfit};
 use table::Steps;
 
 // "a budget of 0 to 4,096 records (more counts as 4,096)"
@@ -51,7 +51,9 @@ pub struct Went {
 
 // A walk on lent rows, with any budget.
 pub fn records(lent: &mut Lent<'_>, trace: &[u8], budget: usize) -> Went
-    ensures { HasGone budget (memory_in lent.old) trace.now result.taken (stop_in result.stop) result.read result.lost (memory_in lent.new) }
+    ensures gone { HasGone budget (memory_in lent.old) trace.now result.taken (stop_in result.stop) result.read result.lost (memory_in lent.new) }
+    ensures same_rows { lent.new.rows.ghost_name ≡ lent.old.rows.ghost_name }
+    ensures same_steps { lent.new.steps ≡ lent.old.steps }
 {
     let mut at = 0;
     let mut lost = 0;
@@ -102,7 +104,9 @@ pub fn walk(s: Session, trace: &[u8], budget: usize) -> Walked
             session: s,
         };
     }
-    let steps = Steps::new(s.property);
+    let mut table = [0; 4257];
+    table::fill(s.property, &mut table);
+    let steps = Steps::new(s.property, &table);
     let mut rows = rows_of(s);
     let mut lent = Lent {
         steps: &steps,
@@ -110,12 +114,21 @@ pub fn walk(s: Session, trace: &[u8], budget: usize) -> Walked
         status: s.shared.status,
     };
     let went = records(&mut lent, trace, budget.min(MOST_RECORDS));
+    if went.taken == 0 {
+        return Walked {
+            taken: 0,
+            stop: went.stop,
+            read: went.read,
+            lost: went.lost,
+            session: s,
+        };
+    }
     Walked {
         taken: went.taken,
         stop: went.stop,
         read: went.read,
         lost: went.lost,
-        session: if went.taken == 0 { s } else { made(&lent) },
+        session: lent.made(),
     }
 }
 

@@ -35,7 +35,9 @@ pub fn explain(
     if output.len() != n || action.len() != n {
         return Err(Refusal::TooShort);
     }
-    let steps = Steps::new(p);
+    let mut table = [0; 4257];
+    table::fill(p, &mut table);
+    let steps = Steps::new(p, &table);
     let start = Reached {
         input: 0,
         output: 0,

@@ -24,8 +24,8 @@ is_blind : (b : Bool) → not b ≡ false → b ≡ true
 is_blind true e = refl
 is_blind false e = sym e
 
-pub returns-in_err-refused : goal.returns-in_err-refused
-returns-in_err-refused c =
+pub returns-in_err-refused-clause-advanced : goal.returns-in_err-refused-clause-advanced
+returns-in_err-refused-clause-advanced c =
     let p = err_from_is_err_and c.from_residual.result c.from_residual.ensures.1 in
     let lent = c.args.lent.now in
     let l = c.args.line in
@@ -34,8 +34,8 @@ returns-in_err-refused c =
     (refused_leads (memory_in lent) lent.ready (Call.line (line_of l.output l.action l.stamp)) refusal
     (line_refused lent.steps.now.property (held_in (memory_in lent)) l.output l.action l.stamp _ c.in_err-refused.ensures (refusal_not_0 refusal)))
 
-pub returns-then-open_after-gt-MOST_OPEN : goal.returns-then-open_after-gt-MOST_OPEN
-returns-then-open_after-gt-MOST_OPEN c =
+pub returns-then-open_after-gt-MOST_OPEN-clause-advanced : goal.returns-then-open_after-gt-MOST_OPEN-clause-advanced
+returns-then-open_after-gt-MOST_OPEN-clause-advanced c =
     let lent = c.args.lent.now in
     let l = c.args.line in
     refused_leads (memory_in lent) lent.ready (Call.line (line_of l.output l.action l.stamp)) TooManyOpen
@@ -66,8 +66,8 @@ next c =
 pub invariant_of-lent : goal.invariant_of-lent
 invariant_of-lent c = record { ready = (next (goal.at.invariant_of-lent c).After-run_on-reply).ready }
 
-pub returns-then-not-clock : goal.returns-then-not-clock
-returns-then-not-clock c = next (goal.at.returns-then-not-clock c).After-run_on-reply
+pub returns-then-not-clock-clause-advanced : goal.returns-then-not-clock-clause-advanced
+returns-then-not-clock-clause-advanced c = next (goal.at.returns-then-not-clock-clause-advanced c).After-run_on-reply
 
 skipped : (c : After-blinded-reply)
     → Leads (memory_in c.args.lent.now) (Call.line (line_of c.args.line.output c.args.line.action c.args.line.stamp)) c.args.lent.now.rows.now c.blinded-reply.result
@@ -80,8 +80,8 @@ skipped c =
 pub invariant_of-lent-then-not-beyond : goal.invariant_of-lent-then-not-beyond
 invariant_of-lent-then-not-beyond c = record { ready = (skipped (goal.at.invariant_of-lent-then-not-beyond c).After-blinded-reply).ready }
 
-pub returns-then-not-beyond : goal.returns-then-not-beyond
-returns-then-not-beyond c = skipped (goal.at.returns-then-not-beyond c).After-blinded-reply
+pub returns-then-not-beyond-clause-advanced : goal.returns-then-not-beyond-clause-advanced
+returns-then-not-beyond-clause-advanced c = skipped (goal.at.returns-then-not-beyond-clause-advanced c).After-blinded-reply
 
 begun : (c : After-begin_with-reply)
     → Leads (memory_in c.args.lent.now) (Call.line (line_of c.args.line.output c.args.line.action c.args.line.stamp)) c.begin_with-reply.new.rows c.begin_with-reply.result
@@ -94,5 +94,5 @@ begun c =
 pub invariant_of-lent-2 : goal.invariant_of-lent-2
 invariant_of-lent-2 c = record { ready = (begun (goal.at.invariant_of-lent-2 c).After-begin_with-reply).ready }
 
-pub returns : goal.returns
-returns c = begun (goal.at.returns c).After-begin_with-reply
+pub returns-clause-advanced : goal.returns-clause-advanced
+returns-clause-advanced c = begun (goal.at.returns-clause-advanced c).After-begin_with-reply

@@ -9,6 +9,6 @@ use Rattle.judged_rest.proofs.judge.Given as goal
 
 abbrev pub invariant-loop-k : goal.invariant-loop-k
 invariant-loop-k l = record {
-  so_far : record { cuts = held_in (memory_in l.lent); told = reason_in (Ok l.reason) } ≡ judged l.steps.property (lent l.output l.action l.stamp) l.from l.k;
-  own : l.lent.steps.now.property ≡ l.steps.property;
+  so_far : record { cuts = held_in (memory_in l.lent); told = reason_in (Ok l.reason) } ≡ judged l.fn.steps.property (lent l.output l.action l.stamp) l.from l.k;
+  own : l.lent.steps.now.property ≡ l.fn.steps.property;
 }

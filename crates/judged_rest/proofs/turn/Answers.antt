@@ -14,9 +14,9 @@ returns-in_err-answer c =
     let p = err_from_is_err_and c.from_residual.result c.from_residual.ensures.1 in
     rw (p.1, p.2)
     (turn_not_taken _ _ _ _ (memory_in c.args.lent.now) c.args.lent.now.ready c.args.before (sym c.waits.ensures ∙ c.if-not-waits.false) c.line.result
-    (memory_in c.line.new.lent) c.line.ensures _ c.in_err-answer.was)
+    (memory_in c.line.new.lent) c.line.ensures.advanced _ c.in_err-answer.was)
 
 pub returns : goal.returns
 returns c =
     turn_taken _ _ _ _ (memory_in c.args.lent.now) c.args.lent.now.ready c.args.before (sym c.waits.ensures ∙ c.if-not-waits.false) c.line.result
-    (memory_in c.line.new.lent) c.line.ensures _ c.in_ok-answer.was _ c.told.ensures
+    (memory_in c.line.new.lent) c.line.ensures.advanced _ c.in_ok-answer.was _ c.told.ensures

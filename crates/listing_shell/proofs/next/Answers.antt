@@ -10,4 +10,4 @@ returns g c =
     let got = c.read_full-got in
     lists a.form (memory_in a.lent.now) a.lent.now.ready c.read_record-read.ensures
     (front-few got.result _ _ (omega (arith, length-take {A = ℕ})))
-    c.«record».ensures
+    c.«record».ensures.adds

@@ -1,11 +1,15 @@
 -- `listing_shell::records` is safe and ends: what is put is the next text of the listing, and each turn is one record more.
+use mathlib.Core.Path.{refl}
 use Rattle.session_record.proofs.Range.{ranged}
 use Rattle.session_record.proofs.Lending.{lends}
 use Rattle.listing_shell.proofs.Listed.{rows-fresh, none-listed, lists_next, lists_on}
 use Rattle.listing_shell.proofs.records.Goals as goal
 
+pub fill-requires : goal.fill-requires
+fill-requires g c = ((ranged c.args.s c.requires.1).formed, refl)
+
 pub new-steps-requires : goal.new-steps-requires
-new-steps-requires g c = (ranged c.args.s c.requires.1).formed
+new-steps-requires g c = ((ranged c.args.s c.requires.1).formed, c.fill.ensures)
 
 pub invariant_of-lent : goal.invariant_of-lent
 invariant_of-lent g c =

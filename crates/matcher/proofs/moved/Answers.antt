@@ -17,7 +17,7 @@ use Rattle.matcher.specs.Sets.{Arranged}
 pub step-free-requires : goal.step-free-requires
 step-free-requires c =
     let a = c.args in
-    let asks = step_asks a.steps.now.property c.args.steps.now.formed a.steps.now.table c.args.steps.now.made a.output a.action c.row-at.result c.row-at.ensures
+    let asks = step_asks a.steps.now.property c.args.steps.now.formed a.steps.now.table.now c.args.steps.now.made a.output a.action c.row-at.result c.row-at.ensures
     a.cut.mask (fits_parts a.steps.now.property a.cut c.requires).0 in
     record { n_bound = asks.0; by_index = asks.1 }
 
@@ -27,7 +27,7 @@ arranged-requires c = ((taken_bounds c.args.steps.now.property c.args.steps.now.
 pub returns-then-outside : goal.returns-then-outside
 returns-then-outside c =
     let a = c.args in
-    outside_moves a.steps.now.property c.args.steps.now.formed a.steps.now.table c.args.steps.now.made a.output a.action c.row-at.result c.row-at.ensures a.cut c.requires
+    outside_moves a.steps.now.property c.args.steps.now.formed a.steps.now.table.now c.args.steps.now.made a.output a.action c.row-at.result c.row-at.ensures a.cut c.requires
     (sym (c.outside.ensures a.steps.now.property refl) ∙ c.if-outside.true)
     c.step-free.ensures.0
     (subst (λ (b : Bool). Arranged a.steps.now.property.n c.step-free.result 0 (cond b 1 0) c.arranged.result)
@@ -43,7 +43,7 @@ pub step-free-requires-then-output : goal.step-free-requires-then-output
 step-free-requires-then-output c =
     let a = c.args in
     let armed-low = armed-lt a.steps.now.property.n a.cut.armed (fits_parts a.steps.now.property a.cut c.requires).1 in
-    let asks = step_asks a.steps.now.property c.args.steps.now.formed a.steps.now.table c.args.steps.now.made a.output a.action c.row-at.result c.row-at.ensures
+    let asks = step_asks a.steps.now.property c.args.steps.now.formed a.steps.now.table.now c.args.steps.now.made a.output a.action c.row-at.result c.row-at.ensures
     _ (or_lt (suc a.steps.now.property.n) a.cut.mask (a.cut.armed / 2) (fits_parts a.steps.now.property a.cut c.requires).0 armed-low) in
     record { n_bound = asks.0; by_index = asks.1 }
 
@@ -57,7 +57,7 @@ arranged-requires-then-output c =
 pub returns-then-output : goal.returns-then-output
 returns-then-output c =
     let a = c.args in
-    allowed_moves a.steps.now.property c.args.steps.now.formed a.steps.now.table c.args.steps.now.made a.output a.action c.row-at.result c.row-at.ensures a.cut c.requires
+    allowed_moves a.steps.now.property c.args.steps.now.formed a.steps.now.table.now c.args.steps.now.made a.output a.action c.row-at.result c.row-at.ensures a.cut c.requires
     c.if-output.true
     (sym (c.outside.ensures a.steps.now.property refl) ∙ c.if-outside.false)
     refl c.step-free-then-output.ensures.0 c.arranged-then-output.ensures
@@ -65,7 +65,7 @@ returns-then-output c =
 pub step-free-requires-2 : goal.step-free-requires-2
 step-free-requires-2 c =
     let a = c.args in
-    let asks = step_asks a.steps.now.property c.args.steps.now.formed a.steps.now.table c.args.steps.now.made a.output a.action c.row-at.result c.row-at.ensures
+    let asks = step_asks a.steps.now.property c.args.steps.now.formed a.steps.now.table.now c.args.steps.now.made a.output a.action c.row-at.result c.row-at.ensures
     a.cut.mask (fits_parts a.steps.now.property a.cut c.requires).0 in
     record { n_bound = asks.0; by_index = asks.1 }
 
@@ -73,7 +73,7 @@ pub step-still-requires : goal.step-still-requires
 step-still-requires c =
     let a = c.args in
     let armed-low = armed-lt a.steps.now.property.n a.cut.armed (fits_parts a.steps.now.property a.cut c.requires).1 in
-    let asks = step_asks a.steps.now.property c.args.steps.now.formed a.steps.now.table c.args.steps.now.made a.output a.action c.row-at.result c.row-at.ensures
+    let asks = step_asks a.steps.now.property c.args.steps.now.formed a.steps.now.table.now c.args.steps.now.made a.output a.action c.row-at.result c.row-at.ensures
     _ (omega (arith, armed-low, pow_pos (suc a.steps.now.property.n))) in
     record { n_bound = asks.0; by_index = asks.1 }
 
@@ -84,5 +84,5 @@ arranged-requires-2 c =
 pub returns : goal.returns
 returns c =
     let a = c.args in
-    input_moves a.steps.now.property c.args.steps.now.formed a.steps.now.table c.args.steps.now.made a.output a.action c.row-at.result c.row-at.ensures a.cut c.requires
+    input_moves a.steps.now.property c.args.steps.now.formed a.steps.now.table.now c.args.steps.now.made a.output a.action c.row-at.result c.row-at.ensures a.cut c.requires
     c.if-output.false c.step-free-2.ensures.0 c.step-still.ensures.0 c.arranged-2.ensures

@@ -21,29 +21,29 @@ known {m} {after} {x} e h = subst (λ (y : Did). Takes m x (doing_in (Ok y)) aft
 same : {m after : Memory} {x : ReadAs} {did d : Did} {k k' : Kept} → did ≡ d → Goes m k x (doing_in (Ok d)) after k' → Goes m k x (doing_in (Ok did)) after k'
 same {m} {after} {x} {k = k} {k' = k'} e h = subst (λ (y : Did). Goes m k x (doing_in (Ok y)) after k') (sym e) h
 
-pub returns-in_err-did : goal.returns-in_err-did
-returns-in_err-did c =
+pub returns-in_err-did-clause-goes : goal.returns-in_err-did-clause-goes
+returns-in_err-did-clause-goes c =
     let p = err_from_is_err_and c.from_residual.result c.from_residual.ensures.1 in
     let lent = c.args.lent.now in
-    rw (p.1, p.2) (refused_goes (memory_in lent) lent.ready c.args.kept.now _ _ (refusal_number c.in_err-did.field-0.0) c.in_err-did.ensures)
+    rw (p.1, p.2) (refused_goes (memory_in lent) lent.ready c.args.kept.now _ _ (refusal_number c.in_err-did.field-0.0) c.in_err-did.ensures.takes)
 
-pub returns-then-blind : goal.returns-then-blind
-returns-then-blind c =
+pub returns-then-blind-clause-goes : goal.returns-then-blind-clause-goes
+returns-then-blind-clause-goes c =
     let lent = c.args.lent.now in
-    closed_goes (memory_in lent) lent.ready c.args.kept.now _ _ _ _ (known c.in-Line.is c.in_ok-did.ensures) c.if-blind.true
+    closed_goes (memory_in lent) lent.ready c.args.kept.now _ _ _ _ (known c.in-Line.is c.in_ok-did.ensures.takes) c.if-blind.true
 
-pub returns-else-blind : goal.returns-else-blind
-returns-else-blind c =
+pub returns-else-blind-clause-goes : goal.returns-else-blind-clause-goes
+returns-else-blind-clause-goes c =
     let lent = c.args.lent.now in
-    line_goes (memory_in lent) lent.ready c.args.kept.now _ _ _ _ _ (known c.in-Line.is c.in_ok-did.ensures) c.if-blind.false c.keep.ensures.kept
+    line_goes (memory_in lent) lent.ready c.args.kept.now _ _ _ _ _ (known c.in-Line.is c.in_ok-did.ensures.takes) c.if-blind.false c.keep.ensures.kept
     c.keep.ensures.counted
 
-pub returns-in-Gap : goal.returns-in-Gap
-returns-in-Gap c =
+pub returns-in-Gap-clause-goes : goal.returns-in-Gap-clause-goes
+returns-in-Gap-clause-goes c =
     let lent = c.args.lent.now in
-    same c.in-Gap.is (marked_goes (memory_in lent) lent.ready c.args.kept.now _ _ _ _ _ (known c.in-Gap.is c.in_ok-did.ensures))
+    same c.in-Gap.is (marked_goes (memory_in lent) lent.ready c.args.kept.now _ _ _ _ _ (known c.in-Gap.is c.in_ok-did.ensures.takes))
 
-pub returns-in-Ended : goal.returns-in-Ended
-returns-in-Ended c =
+pub returns-in-Ended-clause-goes : goal.returns-in-Ended-clause-goes
+returns-in-Ended-clause-goes c =
     let lent = c.args.lent.now in
-    same c.in-Ended.is (ended_goes (memory_in lent) lent.ready c.args.kept.now _ _ (known c.in-Ended.is c.in_ok-did.ensures))
+    same c.in-Ended.is (ended_goes (memory_in lent) lent.ready c.args.kept.now _ _ (known c.in-Ended.is c.in_ok-did.ensures.takes))

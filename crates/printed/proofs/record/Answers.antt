@@ -1,5 +1,5 @@
 -- `printed::record` meets its contract: refusal 10, or the record on what is lent of the session.
-use Rattle.std.proofs.Common.{◌≡◌, ℕ, false, Bool, cond, List, sym, ap, ◌∙◌, subst}
+use Rattle.std.proofs.Common.{◌≡◌, ℕ, false, Bool, cond, List, refl, sym, ap, ◌∙◌, subst}
 use Rattle.record_form.specs.Record.{record_answer, read_case}
 use Rattle.trace_form.specs.ReadAs.{ReadAs, case_as, read_as}
 use Rattle.trace_form.proofs.ReadAs.{read-case}
@@ -25,8 +25,11 @@ returns-then-unfit c =
     ap (λ (x : List ℕ). record { text = x; session = a.s; count = a.count; more = false }) (c.stop.ensures ∙ ap (stop_text a.count) c.from.ensures)
     ∙ sym (named record_answer a.s a.count a.bytes.now (sym c.unfit.ensures ∙ c.if-unfit.true))
 
+pub fill-requires : goal.fill-requires
+fill-requires c = ((ranged c.args.s (fit (goal.at.fill-requires c).Else-unfit)).formed, refl)
+
 pub new-steps-requires : goal.new-steps-requires
-new-steps-requires c = (ranged c.args.s (fit (goal.at.new-steps-requires c).Else-unfit)).formed
+new-steps-requires c = ((ranged c.args.s (fit (goal.at.new-steps-requires c).Else-unfit)).formed, c.fill.ensures)
 
 pub invariant_of-lent : goal.invariant_of-lent
 invariant_of-lent c =
@@ -44,7 +47,7 @@ adds k fits =
     let r = k.rows_of-rows in
     subst (λ (x : ReadAs). Adds (memory_of s) k.args.count x k.record-added.result (after k)) (sym (read-case k.read_record-read.ensures))
     (subst (λ (m : Memory). Adds m k.args.count (case_as (read_case k.read_record-read.result)) k.record-added.result (after k))
-    (lent_is s fits k.new-steps.result.property k.new-steps.ensures r.result r.ensures.0) k.record-added.ensures)
+    (lent_is s fits k.new-steps.result.property k.new-steps.ensures r.result r.ensures.0) k.record-added.ensures.adds)
 
 pub returns : goal.returns
 returns c =

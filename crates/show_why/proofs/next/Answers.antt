@@ -9,4 +9,4 @@ few n bytes long = omega (arith, length-take n bytes)
 
 pub returns : goal.returns
 returns g c =
-    read_next _ (few c.read_full-got.result c.read_full-got.new.buf (omega arith)) c.read_record-read.ensures c.take.ensures
+    read_next _ (few c.read_full-got.result c.read_full-got.new.buf (omega arith)) c.read_record-read.ensures c.take.ensures.goes

@@ -4,8 +4,6 @@ use Rattle.std.specs.Prelude.{Ok, Err}
 use Rattle.std.proofs.lemmas.Result.{err_from_is_err_and}
 use Rattle.outcomes.proofs.Same.{refusal_not_0}
 use Rattle.property_form.specs.Read.{read_numbers}
-use Rattle.property.specs.declared.Property.{Property}
-use Rattle.stretch.specs.Judge.{trace_judged}
 use Rattle.stretch.proofs.Judging.{property-refused, bytes-behind, nothing_behind, taken_good, taken-few}
 use Rattle.stretch.proofs.judge.Goals as goal
 
@@ -22,11 +20,10 @@ pub returns-then-form_bytes-property : goal.returns-then-form_bytes-property
 returns-then-form_bytes-property c =
     sym (bytes-behind c.args.property.now c.args.trace.now (read_numbers (Ok c.in_ok-p.p)) c.in_ok-p.ensures refl c.form_bytes.result c.form_bytes.ensures c.if-form_bytes-property.true)
 
-pub steps_of-requires : goal.steps_of-requires
-steps_of-requires c = taken_good c.args.property.now c.args.trace.now (read_numbers (Ok c.in_ok-p.p)) c.in_ok-p.ensures refl
+pub trace_verdict-requires : goal.trace_verdict-requires
+trace_verdict-requires c = taken_good c.args.property.now c.args.trace.now (read_numbers (Ok c.in_ok-p.p)) c.in_ok-p.ensures refl
 
 pub returns : goal.returns
 returns c =
     c.trace_verdict.ensures
-    ∙ ap (λ (q : Property). trace_judged q c.args.trace.now) c.steps_of.ensures
     ∙ sym (nothing_behind c.args.property.now c.args.trace.now (read_numbers (Ok c.in_ok-p.p)) c.in_ok-p.ensures refl c.form_bytes.result c.form_bytes.ensures c.if-form_bytes-property.false)

@@ -3,7 +3,7 @@ use Rattle.std.specs.Prelude.{min}
 use Rattle.std.proofs.lemmas.Bool.Decides.{nat_tests}
 use Prim.Native.Nat.{ℕ}
 use native.Mathlib.Omega.{arith}
-use mathlib.Core.Path.{◌≡◌, sym, ap, ◌∙◌}
+use mathlib.Core.Path.{◌≡◌, refl, sym, ap, ◌∙◌}
 use mathlib.Core.Bool.{false}
 use mathlib.Core.List.{List}
 use Rattle.property.specs.declared.Property.{Property}
@@ -35,10 +35,10 @@ module _ (s : Session) (fit : out_of_range s ≡ false) (p : Property) (own : p 
   abbrev numbers : Session → Walking
   numbers x = record { taken = taken; stop = stop_number stop; refusal = stop_refusal stop; read = read; lost = lost; session = x }
 
-  none_answer : taken ≡ 0 → numbers s ≡ walk_of s bytes budget
+  none_answer : taken ≡ 0 → record { taken = 0; stop = stop_number stop; refusal = stop_refusal stop; read = read; lost = lost; session = s } ≡ walk_of s bytes budget
   none_answer z =
       let number = gone.number ∙ ap (λ (k : ℕ). last_lost 0 k bytes) z in
-      (λ i. record { taken = z i; stop = stop_number stop; refusal = stop_refusal stop; read = read; lost = number i; session = s })
+      (λ i. record { taken = 0; stop = stop_number stop; refusal = stop_refusal stop; read = read; lost = number i; session = s })
       ∙ none-taken s fit bytes budget w walked z
 
   some_answer : (taken ≡ 0 → ⊥) → (x : Session) → x ≡ record_in after → numbers x ≡ walk_of s bytes budget
@@ -49,8 +49,11 @@ module _ (s : Session) (fit : out_of_range s ≡ false) (p : Property) (own : p 
 pub returns-then-unfit : goal.returns-then-unfit
 returns-then-unfit c = sym (walk_refused c.args.s c.args.trace.now c.args.budget (sym c.if-unfit.ensures))
 
+pub fill-requires : goal.fill-requires
+fill-requires c = ((ranged c.args.s (sym c.if-unfit.ensures)).formed, refl)
+
 pub new-steps-requires : goal.new-steps-requires
-new-steps-requires c = (ranged c.args.s (sym c.if-unfit.ensures)).formed
+new-steps-requires c = ((ranged c.args.s (sym c.if-unfit.ensures)).formed, c.fill.ensures)
 
 pub invariant_of-lent : goal.invariant_of-lent
 invariant_of-lent c =
@@ -63,9 +66,9 @@ invariant_of-lent c =
 pub returns-then-went-eq0 : goal.returns-then-went-eq0
 returns-then-went-eq0 c =
     none_answer c.args.s (sym c.if-unfit.ensures) c.new-steps.result.property c.new-steps.ensures c.rows_of-rows.result c.rows_of-rows.ensures.0
-    c.args.trace.now c.args.budget _ c.min.ensures _ _ _ _ _ c.records-went.ensures c.if-went-eq0.true
+    c.args.trace.now c.args.budget _ c.min.ensures _ _ _ _ _ c.records-went.ensures.gone c.if-went-eq0.true
 
-pub returns-else-went-eq0 : goal.returns-else-went-eq0
-returns-else-went-eq0 c =
+pub returns : goal.returns
+returns c =
     some_answer c.args.s (sym c.if-unfit.ensures) c.new-steps.result.property c.new-steps.ensures c.rows_of-rows.result c.rows_of-rows.ensures.0
-    c.args.trace.now c.args.budget _ c.min.ensures _ _ _ _ _ c.records-went.ensures c.if-went-eq0.false _ c.made.ensures
+    c.args.trace.now c.args.budget _ c.min.ensures _ _ _ _ _ c.records-went.ensures.gone c.if-went-eq0.false _ c.made.ensures

@@ -2,5 +2,5 @@
 use Rattle.printed.proofs.Listed.{did-adds}
 use Rattle.printed.proofs.lent.record.Goals as goal
 
-pub returns : goal.returns
-returns c = did-adds c.args.count c.take-did.ensures c.adds.ensures
+pub returns-clause-adds : goal.returns-clause-adds
+returns-clause-adds c = did-adds c.args.count c.take-did.ensures.takes c.adds.ensures
