@@ -10,8 +10,8 @@ mod orders;
 mod sessions;
 mod steps;
 
-use arrayvec::ArrayString;
 use script::arguments::Arguments;
+use script::text::Page;
 use session_record::Session;
 use std::fmt::Write;
 use std::io::Read;
@@ -19,9 +19,6 @@ use std::{fmt, io};
 
 // So many bytes of a script are read.
 const MOST: usize = 524288;
-
-// What a call prints is made whole on a page, and then written at once. The longest answer is that of `Y` with its four lists of 512 places.
-type Page = ArrayString<32768>;
 
 // No call has this name: nothing behind it is read.
 fn unknown(page: &mut Page, name: u8, arguments: &mut Arguments<'_>) -> fmt::Result {

@@ -1,6 +1,6 @@
 // A property: taken from a script, and printed.
 use crate::arguments::Arguments;
-use crate::text::used;
+use crate::text::{used, wide_bytes, wide_flags};
 use property::Property;
 use std::fmt;
 use std::fmt::{Display, Formatter};
@@ -24,10 +24,8 @@ pub struct PropertyText<'a>(pub &'a Property);
 impl Display for PropertyText<'_> {
     fn fmt<W: fmt::Write>(&self, f: &mut Formatter<W>) -> fmt::Result {
         let p = self.0;
-        let directions = p.output.map(u64::from);
-        let numbers = p.number.map(u64::from);
         writeln!(f, "property {} {} {} {}", p.n, p.allowed, p.lb, p.ub)?;
-        writeln!(f, "directions{}", used(&directions))?;
-        writeln!(f, "numbers{}", used(&numbers))
+        writeln!(f, "directions{}", used(&wide_flags(&p.output)))?;
+        writeln!(f, "numbers{}", used(&wide_bytes(&p.number)))
     }
 }

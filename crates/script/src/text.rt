@@ -1,6 +1,10 @@
 // What calls print: numbers, lists of them and bytes.
+use arrayvec::ArrayString;
 use std::fmt::{Display, Formatter};
 use std::{fmt, str};
+
+// What a call prints is made whole on a page, and then written at once. The longest answer is that of `Y` with its four lists of 512 places.
+pub type Page = ArrayString<32768>;
 
 // Numbers, with a space before each.
 #[derive(Clone, Copy)]
@@ -13,6 +17,27 @@ impl<T: Display> Display for Numbers<'_, T> {
         }
         Ok(())
     }
+}
+
+pub fn wide_flag(flag: bool) -> u64 {
+    u64::from(flag)
+}
+
+// Flags, and bytes, as words, with zeros behind them.
+pub fn wide_flags(flags: &[bool]) -> [u64; 65] {
+    let mut words = [0; 65];
+    for (word, flag) in words.iter_mut().zip(flags) {
+        *word = wide_flag(*flag);
+    }
+    words
+}
+
+pub fn wide_bytes(bytes: &[u8]) -> [u64; 65] {
+    let mut words = [0; 65];
+    for (word, byte) in words.iter_mut().zip(bytes) {
+        *word = u64::from(*byte);
+    }
+    words
 }
 
 // The places up to the last that is not 0.
